@@ -1,0 +1,4 @@
+pub mod Heads
+pub mod Extremes
+pub mod WindowScans
+pub mod TideTurns

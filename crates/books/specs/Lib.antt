@@ -1,0 +1,11 @@
+pub mod Meaning
+pub mod Told
+pub mod Faults
+pub mod Records
+pub mod Windows
+pub mod Tides
+pub mod Options
+pub mod Scans
+pub mod Sound
+pub mod WindowLaws
+pub mod TideLaws

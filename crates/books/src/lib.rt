@@ -1,0 +1,6 @@
+// Books: when each gate lets a boat in, and when the boat comes out.
+pub mod book;
+pub mod faults;
+mod records;
+pub mod tides;
+pub mod windows;
