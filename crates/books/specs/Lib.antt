@@ -4,6 +4,7 @@ pub mod Faults
 pub mod Records
 pub mod Windows
 pub mod Tides
+pub mod Worked
 pub mod Options
 pub mod Scans
 pub mod Sound

@@ -1,6 +1,8 @@
 // Books: when each gate lets a boat in, and when the boat comes out.
 pub mod book;
 pub mod faults;
+pub mod passages;
 mod records;
 pub mod tides;
 pub mod windows;
+pub mod worked;
