@@ -3,6 +3,8 @@ pub mod book;
 pub mod faults;
 pub mod passages;
 mod records;
+#[cfg(test)]
+mod tests;
 pub mod tides;
 pub mod windows;
 pub mod worked;

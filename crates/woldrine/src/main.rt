@@ -65,7 +65,12 @@ fn travel(rt: &LibcRuntime) -> io::Result<()> {
     show_check(rt, "the tide gate", tidal.check())
 }
 
-fn check_timed<'a>(rt: &LibcRuntime, what: &str, passages: &'a [u16], windows: &'a [Window]) -> io::Result<()> {
+fn check_timed<'a>(
+    rt: &LibcRuntime,
+    what: &str,
+    passages: &'a [u16],
+    windows: &'a [Window],
+) -> io::Result<()> {
     let book = WindowBook::new(passages, windows);
     show_check(rt, what, book.check())
 }
@@ -84,10 +89,21 @@ fn check_faulty(rt: &LibcRuntime) -> io::Result<()> {
     let no_time = [20, 0];
     check_timed(rt, "passage times 20 and 0", &no_time, &none)?;
     let astray = [WINDOW, Window { gate: 1, ..WINDOW }];
-    check_timed(rt, "one timed gate and windows of gates 0 and 1", &good, &astray)?;
-    let reversed = [Window { begin: 96, ..WINDOW }];
+    check_timed(
+        rt,
+        "one timed gate and windows of gates 0 and 1",
+        &good,
+        &astray,
+    )?;
+    let reversed = [Window {
+        begin: 96,
+        ..WINDOW
+    }];
     check_timed(rt, "a window from 96 to 95", &good, &reversed)?;
-    let overlong = [Tide { length: 746, ..TIDE }];
+    let overlong = [Tide {
+        length: 746,
+        ..TIDE
+    }];
     check_tides(rt, "a tide of period 745 and length 746", &overlong)
 }
 

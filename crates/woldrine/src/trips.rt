@@ -20,7 +20,11 @@ pub struct Asked<'a, B> {
     pub gate: Gate,
 }
 
-fn next<B: Book>(rt: &LibcRuntime, asked: Asked<'_, B>, t: Instant) -> io::Result<Option<(Instant, Instant)>>
+fn next<B: Book>(
+    rt: &LibcRuntime,
+    asked: Asked<'_, B>,
+    t: Instant,
+) -> io::Result<Option<(Instant, Instant)>>
     ensures { λ r. ⌜ made r (λ a. a ≡ first-open (B·Book .exits (now (asked .entry .book)) (asked .entry .gate)) t) ⌝ }
 {
     let times = next_passage(asked.book, asked.gate, t);
@@ -31,7 +35,11 @@ fn next<B: Book>(rt: &LibcRuntime, asked: Asked<'_, B>, t: Instant) -> io::Resul
     Ok(times)
 }
 
-fn last<B: Book>(rt: &LibcRuntime, asked: Asked<'_, B>, t: Instant) -> io::Result<Option<(Instant, Instant)>>
+fn last<B: Book>(
+    rt: &LibcRuntime,
+    asked: Asked<'_, B>,
+    t: Instant,
+) -> io::Result<Option<(Instant, Instant)>>
     ensures { λ r. ⌜ made r (λ a. a ≡ last-open (B·Book .exits (now (asked .entry .book)) (asked .entry .gate)) t) ⌝ }
 {
     let times = last_passage(asked.book, asked.gate, t);
@@ -43,7 +51,12 @@ fn last<B: Book>(rt: &LibcRuntime, asked: Asked<'_, B>, t: Instant) -> io::Resul
 }
 
 // Through one gate and then another; when the boat comes out.
-pub fn out<F: Book, S: Book>(rt: &LibcRuntime, near: Asked<'_, F>, far: Asked<'_, S>, ready: Instant) -> io::Result<Option<Instant>>
+pub fn out<F: Book, S: Book>(
+    rt: &LibcRuntime,
+    near: Asked<'_, F>,
+    far: Asked<'_, S>,
+    ready: Instant,
+) -> io::Result<Option<Instant>>
     ensures { λ r. ⌜ made r (λ a. a ≡ out-at (F·Book .exits (now (near .entry .book)) (near .entry .gate)) (S·Book .exits (now (far .entry .book)) (far .entry .gate)) ready) ⌝ }
 {
     let Some((_, between)) = next(rt, near, ready)? else {
@@ -56,7 +69,12 @@ pub fn out<F: Book, S: Book>(rt: &LibcRuntime, near: Asked<'_, F>, far: Asked<'_
 }
 
 // Backwards from a due instant; when the boat has to enter the first of the two gates.
-pub fn back<F: Book, S: Book>(rt: &LibcRuntime, near: Asked<'_, F>, far: Asked<'_, S>, due: Instant) -> io::Result<Option<Instant>>
+pub fn back<F: Book, S: Book>(
+    rt: &LibcRuntime,
+    near: Asked<'_, F>,
+    far: Asked<'_, S>,
+    due: Instant,
+) -> io::Result<Option<Instant>>
     ensures { λ r. ⌜ made r (λ a. a ≡ in-by (F·Book .exits (now (near .entry .book)) (near .entry .gate)) (S·Book .exits (now (far .entry .book)) (far .entry .gate)) due) ⌝ }
 {
     let Some((between, _)) = last(rt, far, due)? else {

@@ -23,7 +23,7 @@ returns-in-Some g c =
     let number = c .number-number .result in
     let f = c .in-Some .finding in
     let e : text word (f .place) number ≡ check-text (c .args .self .now .found) =
-        ap (λ (w : List ℕ). text w (f .place) number) (c .word-list .ensures)
-        ∙ ap (text (list-word (f .list)) (f .place)) (c .number-number .ensures)
-        ∙ sym (ap check-text (c .in-Some .is)) in
+    ap (λ (w : List ℕ). text w (f .place) number) (c .word-list .ensures)
+    ∙ ap (text (list-word (f .list)) (f .place)) (c .number-number .ensures)
+    ∙ sym (ap check-text (c .in-Some .is)) in
     λ p o. put-is (g .W·Write .took) _ (text word (f .place) number) (check-text (c .args .self .now .found)) _ e (c .write-in-Some .ensures .shows p o)
