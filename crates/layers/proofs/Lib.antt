@@ -1,0 +1,4 @@
+pub mod Sides
+pub mod Places
+pub mod Steps
+pub mod Posts

@@ -1,0 +1,4 @@
+pub mod TwoBooks
+pub mod Notices
+pub mod TwoLaws
+pub mod NoticeLaws
