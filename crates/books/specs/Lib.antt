@@ -4,7 +4,6 @@ pub mod Faults
 pub mod Records
 pub mod Windows
 pub mod Tides
-pub mod Worked
 pub mod Options
 pub mod Scans
 pub mod Sound

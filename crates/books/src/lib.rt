@@ -7,4 +7,3 @@ mod records;
 mod tests;
 pub mod tides;
 pub mod windows;
-pub mod worked;

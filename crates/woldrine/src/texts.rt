@@ -1,8 +1,12 @@
 // What an answer is printed as.
+ghost use denote.Ref.{now};
+ghost use Rattle.layers.specs.Notices.{declined};
 ghost use Rattle.std.specs.declared.option.Option.the-variants.{Some};
-ghost use Rattle.woldrine.specs.Texts.{passage-text, check-text};
+ghost use Rattle.woldrine.specs.Texts.{passage-text, check-text, span-text, reply-text};
 use books::book::Instant;
 use books::faults::Finding;
+use layers::notices::Notice;
+use layers::notices::refusals::Refusal;
 use std::fmt;
 
 // The answer of `first` or `last`.
@@ -39,6 +43,44 @@ pub impl fmt::Display for Checked as CheckedDisplay {
                 let place = finding.place;
                 let number = finding.fault.number();
                 write!(f, "(book {list} {place} {number})")
+            }
+        }
+    }
+}
+
+// The figures of a notice.
+#[derive(Clone, Copy)]
+pub struct Span {
+    pub notice: Notice,
+}
+
+pub impl fmt::Display for Span as SpanDisplay {
+    ghost shown = { λ s. Some (span-text (s .notice)) };
+
+    fn fmt<W: fmt::Write>(&self, f: &mut fmt::Formatter<W>) -> fmt::Result {
+        let gate = self.notice.gate;
+        let begin = self.notice.begin;
+        let end = self.notice.end;
+        write!(f, "gate {gate} from {begin} to {end}")
+    }
+}
+
+// The reply to a post or a lift: what was done, or the number it was declined with.
+#[derive(Clone, Copy)]
+pub struct Reply<'a> {
+    pub done: &'a str,
+    pub outcome: Result<(), Refusal>,
+}
+
+pub impl fmt::Display for Reply<'_> as ReplyDisplay {
+    ghost shown = { λ r. Some (reply-text (now (r .done)) (declined (r .outcome))) };
+
+    fn fmt<W: fmt::Write>(&self, f: &mut fmt::Formatter<W>) -> fmt::Result {
+        match self.outcome {
+            Ok(()) => f.write_str(self.done),
+            Err(refusal) => {
+                let number = refusal.number();
+                write!(f, "declined {number}")
             }
         }
     }

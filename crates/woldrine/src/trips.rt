@@ -13,14 +13,15 @@ use books::passages::next_passage;
 use std::io;
 
 // A gate that is asked, with the word that its kind is printed by.
-#[derive(Clone, Copy)]
+#[derive_where(Clone, Copy)]
 pub struct Asked<'a, B> {
     pub kind: &'a str,
     pub book: &'a B,
     pub gate: Gate,
 }
 
-fn next<B: Book>(
+// Asks for the next passage.
+pub fn next<B: Book>(
     rt: &LibcRuntime,
     asked: Asked<'_, B>,
     t: Instant,
@@ -35,7 +36,8 @@ fn next<B: Book>(
     Ok(times)
 }
 
-fn last<B: Book>(
+// Asks for the last passage.
+pub fn last<B: Book>(
     rt: &LibcRuntime,
     asked: Asked<'_, B>,
     t: Instant,
