@@ -71,13 +71,17 @@ abbrev pub taken-down : Notice → List Notice → List Notice
 taken-down n [] = []
 taken-down n (m ∷ ms) = cond (same-notice m n) ms (m ∷ taken-down n ms)
 
--- the number with which a post is declined, if it is, over a book of so many gates
-abbrev pub post-refusal : ℕ → List Notice → Notice → Option ℕ
-post-refusal gates ns n =
+-- the number with which a post is declined, if it is: over a book of so many gates, where the same notice is up or not, and
+-- 32 are up or not
+abbrev pub refusal-where : ℕ → Notice → Bool → Bool → Option ℕ
+refusal-where gates n up full =
     cond (leb gates (n .gate)) (Some 7)
     (cond (leb (n .end) (n .begin) || ltb 20160 (n .end)) (Some 8)
-    (cond (is-up n ns) (Some 9)
-    (cond (leb 32 (length ns)) (Some 10) None)))
+    (cond up (Some 9)
+    (cond full (Some 10) None)))
+
+abbrev pub post-refusal : ℕ → List Notice → Notice → Option ℕ
+post-refusal gates ns n = refusal-where gates n (is-up n ns) (leb 32 (length ns))
 
 -- what a call leaves: the new notices, unless it is declined
 abbrev pub unless : {X : Type 0} → Option ℕ → X → X → X

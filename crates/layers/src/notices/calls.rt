@@ -3,15 +3,17 @@ ghost use mathlib.Core.List.{[]};
 ghost use mathlib.Core.Path.{_≡_};
 ghost use mir.Syntax.{Dict};
 ghost use Rattle.std.specs.Of.Vec.{vec-items};
+ghost use Rattle.std.specs.Options.{mapped};
 ghost use Rattle.std.specs.Vec.{made};
 ghost use Rattle.books.specs.Meaning.{Means};
-ghost use Rattle.layers.specs.Notices.{same-notice, place-of, declined, post-refusal, after-post, lift-refusal, after-lift, Noticed-passage};
+ghost use Rattle.layers.specs.Notices.{same-notice, place-of, declined, refusal-number, refusal-where, post-refusal, after-post, lift-refusal, after-lift, Noticed-passage};
 ghost use Rattle.layers.specs.contracts.notices.open.NoticedBook.the-impl.{ghosts as noticed-book};
 use crate::notices::MOST_NOTICES;
 use crate::notices::Notice;
 use crate::notices::Noticed;
 use crate::notices::refusals::Refusal;
 use books::book::Book;
+use books::book::Gate;
 use books::book::LAST_INSTANT;
 use std::alloc::AllocError;
 use std::alloc::Global;
@@ -36,6 +38,23 @@ fn place(notices: &[Notice], notice: Notice) -> Option<usize>
     None
 }
 
+// Why a notice can't be posted over a book of so many gates.
+fn refusal(notice: Notice, gates: Gate, up: bool, full: bool) -> Option<Refusal>
+    ensures { λ r. ⌜ mapped refusal-number r ≡ refusal-where gates notice up full ⌝ }
+{
+    if notice.gate >= gates {
+        return Some(Refusal::NoGate);
+    }
+    if notice.begin >= notice.end || notice.end > LAST_INSTANT {
+        return Some(Refusal::BadNotice);
+    }
+    match (up, full) {
+        (true, _) => Some(Refusal::SameNotice),
+        (false, true) => Some(Refusal::NoticesFull),
+        (false, false) => None,
+    }
+}
+
 impl<B: Book + Drop> Noticed<B> {
     // No notice is up; all room is reserved here, so that no later call wants memory.
     pub fn new(heap: Global, book: B) -> Result<Noticed<B>, AllocError>
@@ -54,17 +73,10 @@ impl<B: Book> Noticed<B> {
         ensures book { λ _. ⌜ now (self .exit) .book ≡ now (self .entry) .book ⌝ }
         ensures meaning { λ _. ⌜ ((d : Dict) → Means (noticed-book B·row B·Book d .gates (now (self .exit))) (noticed-book B·row B·Book d .exits (now (self .exit))) (B·Book .gates (now (self .entry) .book)) (Noticed-passage (vec-items (now (self .exit) .notices)) (B·Book .exits (now (self .entry) .book)))) ⌝ }
     {
-        if notice.gate >= self.book.count() {
-            return Err(Refusal::NoGate);
-        }
-        if notice.begin >= notice.end || notice.end > LAST_INSTANT {
-            return Err(Refusal::BadNotice);
-        }
-        if place(&self.notices, notice).is_some() {
-            return Err(Refusal::SameNotice);
-        }
-        if self.notices.len() >= MOST_NOTICES {
-            return Err(Refusal::NoticesFull);
+        let up = place(&self.notices, notice).is_some();
+        let full = self.notices.len() >= MOST_NOTICES;
+        if let Some(refusal) = refusal(notice, self.book.count(), up, full) {
+            return Err(refusal);
         }
         self.notices.push_reserved(notice);
         Ok(())
