@@ -83,7 +83,7 @@ module _ (ds : List Tide) where
       record {
         among = omega (arith, r .among);
         tide = p .by;
-        entry-g = r .found;
+        its-entry = r .found;
         some = f .some;
         within = f .within;
         turns = f .turns;
@@ -99,7 +99,7 @@ module _ (ds : List Tide) where
   tidal-all g s e t =
       let d = t .tide in
       let fine = tide-none (listed ds) d (record { some = t .some; within = t .within; turns = t .turns; part = t .part; in-time = t .in-time }) in
-      let at = sound-gate-all tide-faults ds g d (record { among = listed-gate ds g d (t .among) (t .entry-g); found = t .entry-g; fine = fine }) in
+      let at = sound-gate-all tide-faults ds g d (record { among = listed-gate ds g d (t .among) (t .its-entry); found = t .its-entry; fine = fine }) in
       let y = tide-opens-at d s (record { come = t .come; fits = t .fits; ends = t .ends }) in
       exit-open (λ d. d .passage) (λ g. tide-opens) (sound-gate tide-faults ds) g s d at y ∙ ap Some (sym (t .out))
 

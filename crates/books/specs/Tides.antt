@@ -40,7 +40,7 @@ pub record Tidal-passage (ds : List Tide) (g s e : ℕ) : Type 0 where
   pub among : g < 256
   -- the gate's tide, which has no fault
   pub tide : Tide
-  pub entry-g : nth ds g ≡ Some tide
+  pub its-entry : nth ds g ≡ Some tide
   pub some : 1 ≤ tide .passage
   pub within : tide .passage ≤ 20160
   pub turns : 1 ≤ tide .period

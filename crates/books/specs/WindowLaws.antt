@@ -102,7 +102,7 @@ module _ (ps : List ℕ) (ws : List Window) where
       record {
         among = omega (arith, r .among);
         minutes = p .by;
-        entry-g = r .found;
+        its-entry = r .found;
         some = fine .0;
         within = fine .1;
         place = w .place;
@@ -119,8 +119,8 @@ module _ (ps : List ℕ) (ws : List Window) where
   timed-all : (g s e : ℕ) → Timed-passage ps ws g s e → timed-exits ps ws g s ≡ Some e
   timed-all g s e t =
       let p = t .minutes in
-      let in-list = listed-gate ps g p (t .among) (t .entry-g) in
-      let at = sound-gate-all passage-faults ps g p (record { among = in-list; found = t .entry-g; fine = passage-none (listed ps) p (t .some) (t .within) }) in
+      let in-list = listed-gate ps g p (t .among) (t .its-entry) in
+      let at = sound-gate-all passage-faults ps g p (record { among = in-list; found = t .its-entry; fine = passage-none (listed ps) p (t .some) (t .within) }) in
       let fine : Window-fine (listed ps) (t .window) = record { gate = omega (arith, t .its-gate); ordered = t .ordered; in-time = t .in-time } in
       let y = held-at (listed ps) ws g p s (t .place) (t .window) (t .window-at) (t .its-gate) fine (t .opened) (omega (arith, t .out, t .closes)) in
       exit-open (λ p. p) (held (listed ps) ws) (sound-gate passage-faults ps) g s p at y ∙ ap Some (sym (t .out))

@@ -42,7 +42,7 @@ pub record Timed-passage (ps : List ℕ) (ws : List Window) (g s e : ℕ) : Type
   pub among : g < 256
   -- the gate's passage time, which has no fault
   pub minutes : ℕ
-  pub entry-g : nth ps g ≡ Some minutes
+  pub its-entry : nth ps g ≡ Some minutes
   pub some : 1 ≤ minutes
   pub within : minutes ≤ 20160
   -- one window of the gate, which has no fault

@@ -1,7 +1,6 @@
 ghost use mathlib.Core.List.{List};
 ghost use mathlib.Core.Path.{_≡_};
 ghost use Prim.Native.Nat.{ℕ};
-ghost use Rattle.std.specs.Options.{mapped};
 ghost use Rattle.books.specs.Told.{fault-number, list-word, numbered, told};
 ghost use Rattle.books.specs.Faults.{listed, head, faults-from, gate-list-faults, in-list, passage-faults};
 ghost use Rattle.books.specs.Records.{sound-gate};

@@ -67,6 +67,7 @@ impl<B: Book + Drop> Noticed<B> {
 }
 
 impl<B: Book> Noticed<B> {
+    // Puts a notice up. The meaning after it is that of the impl of Book, whatever its table of functions (d).
     pub fn post(&mut self, notice: Notice) -> Result<(), Refusal>
         ensures reply { λ r. ⌜ declined r ≡ post-refusal (B·Book .gates (now (self .entry) .book)) (vec-items (now (self .entry) .notices)) notice ⌝ }
         ensures notices { λ _. ⌜ vec-items (now (self .exit) .notices) ≡ after-post (B·Book .gates (now (self .entry) .book)) (vec-items (now (self .entry) .notices)) notice ⌝ }
@@ -82,6 +83,7 @@ impl<B: Book> Noticed<B> {
         Ok(())
     }
 
+    // Takes the notice with the same three figures down.
     pub fn lift(&mut self, notice: Notice) -> Result<(), Refusal>
         ensures reply { λ r. ⌜ declined r ≡ lift-refusal (vec-items (now (self .entry) .notices)) notice ⌝ }
         ensures notices { λ _. ⌜ vec-items (now (self .exit) .notices) ≡ after-lift (vec-items (now (self .entry) .notices)) notice ⌝ }
