@@ -1,0 +1,5 @@
+pub mod CellSteps
+pub mod Best
+pub mod Walked
+pub mod Simple
+pub mod Settled

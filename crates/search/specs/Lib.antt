@@ -1,0 +1,6 @@
+pub mod Laws
+pub mod Reaches
+pub mod Rows
+pub mod Walks
+pub mod Filled
+pub mod Tolls
