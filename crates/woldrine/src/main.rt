@@ -1,5 +1,6 @@
 // Takes a boat through a timed gate and a tide gate, out and back, then the same under notices, and checks
 // books that have faults.
+use crate::charts::show_search;
 use crate::notes::lift;
 use crate::notes::post;
 use crate::texts::Checked;
@@ -27,6 +28,7 @@ use layers::two_books::TwoBooksBook;
 use layers::worked::worked_examples;
 use std::io;
 
+mod charts;
 mod notes;
 mod texts;
 mod trips;
@@ -215,6 +217,7 @@ fn main(rt: LibcRuntime) -> io::Result<()> {
     travel(&rt)?;
     layered(&rt)?;
     check_faulty(&rt)?;
+    show_search(&rt)?;
     let count = worked_examples();
     println!(rt, "{count} worked examples hold")
 }

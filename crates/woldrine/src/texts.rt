@@ -85,3 +85,25 @@ pub impl fmt::Display for Reply<'_> as ReplyDisplay {
         }
     }
 }
+
+// The labels of the places 0 to 3 in one row of a search.
+#[derive(Clone, Copy)]
+pub struct Row {
+    pub labels: [Option<u16>; 4],
+}
+
+fn show_label<W: fmt::Write>(label: Option<u16>, f: &mut fmt::Formatter<W>) -> fmt::Result {
+    match label {
+        None => write!(f, " -"),
+        Some(n) => write!(f, " {n}"),
+    }
+}
+
+pub impl fmt::Display for Row as RowDisplay {
+    fn fmt<W: fmt::Write>(&self, f: &mut fmt::Formatter<W>) -> fmt::Result {
+        show_label(self.labels[0], f)?;
+        show_label(self.labels[1], f)?;
+        show_label(self.labels[2], f)?;
+        show_label(self.labels[3], f)
+    }
+}
