@@ -3,3 +3,4 @@ pub mod Best
 pub mod Walked
 pub mod Simple
 pub mod Settled
+pub mod Backwards

@@ -18,7 +18,7 @@ use Rattle.search.specs.Walks.{Inside, Leads, led, Good, Gone}
 use Rattle.search.specs.declared.reaches.Reach.{Reach}
 use Rattle.search.proofs.CellSteps.{inside, step}
 
-charted : (e : Reach) → Inside e → in-chart e ≡ true
+pub charted : (e : Reach) → Inside e → in-chart e ≡ true
 charted e i = and-from (ltb (e .from) 64) (ltb (e .to) 64) (lt-ltb (e .from) 64 (i .0)) (lt-ltb (e .to) 64 (i .1))
 
 module _ {L : Type 0} {good : L → L → Bool} {goes : ℕ → L → Option L} (laws : Laws good goes) where
@@ -64,7 +64,7 @@ module _ {L : Type 0} {good : L → L → Bool} {goes : ℕ → L → Option L} 
       (cond-both (in-chart e && eqb (e .to) v) (better good here (onward goes (e .gate) (f (e .from)))) here (λ o. Good good o z) (λ _. good-old here (onward goes (e .gate) (f (e .from))) z g) (λ _. g))
 
   -- what the reach at i brings is not missed
-  gathered-by : (es : List Reach) (i : ℕ) → i < length es → (e : Reach) → getD es i e ≡ e → Inside e → (f : ℕ → Option L) (v : ℕ) → e .to ≡ v → (here : Option L) (z : L)
+  pub gathered-by : (es : List Reach) (i : ℕ) → i < length es → (e : Reach) → getD es i e ≡ e → Inside e → (f : ℕ → Option L) (v : ℕ) → e .to ≡ v → (here : Option L) (z : L)
       → Good good (onward goes (e .gate) (f (e .from))) z → Good good (gathered good goes es f v here) z
   gathered-by [] i l e at ins f v to here z g = absurd (omega arith)
   gathered-by (r ∷ es) zero l e at ins f v to here z g =
@@ -74,13 +74,13 @@ module _ {L : Type 0} {good : L → L → Bool} {goes : ℕ → L → Option L} 
   gathered-by (r ∷ es) (suc i) l e at ins f v to here z g = gathered-by es i (omega arith) e at ins f v to (step good goes f v r here) z g
 
   -- where a gathered label comes from
-  abbrev Brought : List Reach → (ℕ → Option L) → ℕ → Option L → Type 0
+  abbrev pub Brought : List Reach → (ℕ → Option L) → ℕ → Option L → Type 0
   Brought es f v o = (e : Reach) × Has es e × Inside e × (e .to ≡ v) × (o ≡ onward goes (e .gate) (f (e .from)))
 
   brought-more : (r : Reach) (es : List Reach) (f : ℕ → Option L) (v : ℕ) (o : Option L) → Brought es f v o → Brought (r ∷ es) f v o
   brought-more r es f v o b = (b .0, (suc (b .1 .0), omega (arith, b .1 .1), b .1 .2), b .2, b .3, b .4)
 
-  gathered-from : (es : List Reach) (f : ℕ → Option L) (v : ℕ) (here : Option L) → (gathered good goes es f v here ≡ here) ⊎ Brought es f v (gathered good goes es f v here)
+  pub gathered-from : (es : List Reach) (f : ℕ → Option L) (v : ℕ) (here : Option L) → (gathered good goes es f v here ≡ here) ⊎ Brought es f v (gathered good goes es f v here)
   gathered-from [] f v here = inl refl
   gathered-from (e ∷ es) f v here =
       let new = onward goes (e .gate) (f (e .from)) in
@@ -97,14 +97,14 @@ module _ {L : Type 0} {good : L → L → Bool} {goes : ℕ → L → Option L} 
       (λ b. inr (brought-more e es f v (gathered good goes es f v next) b))
       (gathered-from es f v next)
 
-  never : {P : Type 0} {z : L} → _≡_ {A = Option L} None (Some z) → P
+  pub never : {P : Type 0} {z : L} → _≡_ {A = Option L} None (Some z) → P
   never h = let e : _≡_ {A = ℕ} 0 1 = cc in absurd (omega arith)
 
   pub onward-some : (g : ℕ) (o : Option L) (z : L) → onward goes g o ≡ Some z → (y : L) × (o ≡ Some y) × (goes g y ≡ Some z)
   onward-some g None z h = never h
   onward-some g (Some y) z h = (y, refl, h)
 
-  onward-good : (g : ℕ) (o : Option L) (y z : L) → Good good o y → goes g y ≡ Some z → Good good (onward goes g o) z
+  pub onward-good : (g : ℕ) (o : Option L) (y z : L) → Good good o y → goes g y ≡ Some z → Good good (onward goes g o) z
   onward-good g o y z b h = let t = laws .isotone g (b .0) y z (b .2) h in (t .0, ap (onward goes g) (b .1) ∙ t .1, t .2)
 
   module _ (es : List Reach) (at : ℕ) (x : L) where

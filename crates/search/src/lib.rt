@@ -6,3 +6,4 @@ pub mod rows;
 #[cfg(test)]
 mod tests;
 pub mod tolls;
+pub mod ways;

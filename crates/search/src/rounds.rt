@@ -13,7 +13,7 @@ use crate::reaches::Reach;
 use crate::reckoning::Reckoning;
 
 // How a label, if there is one, goes on.
-pub fn go_on<R: Reckoning>(by: &R, gate: Gate, here: Option<R::Label>) -> Option<R::Label>
+pub(crate) fn go_on<R: Reckoning>(by: &R, gate: Gate, here: Option<R::Label>) -> Option<R::Label>
     ensures { λ r. ⌜ r ≡ onward (goes (now (by .entry))) gate here ⌝ }
 {
     match here {
@@ -23,7 +23,7 @@ pub fn go_on<R: Reckoning>(by: &R, gate: Gate, here: Option<R::Label>) -> Option
 }
 
 // Whether the new label betters the old.
-pub fn betters<R: Reckoning>(by: &R, old: Option<R::Label>, new: Option<R::Label>) -> bool
+pub(crate) fn betters<R: Reckoning>(by: &R, old: Option<R::Label>, new: Option<R::Label>) -> bool
     ensures { λ r. ⌜ r ≡ bettering (good (now (by .entry))) old new ⌝ }
 {
     match (old, new) {
@@ -86,7 +86,7 @@ fn carry<L: Copy>(cells: &mut [Option<L>], p: usize, q: usize)
 }
 
 // Fills row k from the row before it, and says whether a place is bettered.
-pub fn advance<R: Reckoning>(
+pub(crate) fn advance<R: Reckoning>(
     by: &R,
     direction: Direction,
     reaches: &[Reach],

@@ -9,7 +9,7 @@ use search::tolls::TollsReckoning;
 use std::io;
 
 // Four places and four reaches. The way from 0 to 2 with fewest reaches is not the cheapest.
-pub fn show_search(rt: &LibcRuntime) -> io::Result<()> {
+pub(crate) fn show_search(rt: &LibcRuntime) -> io::Result<()> {
     let reaches = [
         Reach {
             from: 0,
