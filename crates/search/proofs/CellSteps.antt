@@ -86,11 +86,11 @@ module _ {L : Type 0} (good : L → L → Bool) (goes : ℕ → L → Option L) 
           unbettered y = ⊎-elim (λ b. let z : true ≡ false = sym (and-from (in-chart e) (bettering good (f (e .to)) new) y b) ∙ quiet .0 in let w : _≡_ {A = ℕ} 0 1 = cc in absurd (omega arith)) (λ n. n) (cases-bool (bettering good (f (e .to)) new))
 
 module _ {L : Type 0} (good : L → L → Bool) (goes : ℕ → L → Option L) (p q : ℕ) where
-  length-relaxed : (cells : List (Option L)) (e : Reach) → length (relaxed good goes p q cells e) ≡ length cells
+  pub length-relaxed : (cells : List (Option L)) (e : Reach) → length (relaxed good goes p q cells e) ≡ length cells
   length-relaxed cells e = cond-both (tells good goes p q cells e) (set cells (q + e .to) (come goes p cells e)) cells (λ l. length l ≡ length cells) (λ _. simp length-set) (λ _. refl)
 
   -- a reach leaves every other row as it is
-  relaxed-outside : (cells : List (Option L)) (e : Reach) (j : ℕ) → (j < q) ⊎ (q + 64 ≤ j) → getD (relaxed good goes p q cells e) j None ≡ getD cells j None
+  pub relaxed-outside : (cells : List (Option L)) (e : Reach) (j : ℕ) → (j < q) ⊎ (q + 64 ≤ j) → getD (relaxed good goes p q cells e) j None ≡ getD cells j None
   relaxed-outside cells e j out =
       cond-both (tells good goes p q cells e) (set cells (q + e .to) (come goes p cells e)) cells (λ l. getD l j None ≡ getD cells j None)
       (λ y. let low = inside e (and-parts (in-chart e) (bettering good (getD cells (q + e .to) None) (come goes p cells e)) y .0) .1 in
@@ -106,7 +106,7 @@ module _ {L : Type 0} (good : L → L → Bool) (goes : ℕ → L → Option L) 
     abbrev Reads : List (Option L) → ℕ → Type 0
     Reads cells r = (u : ℕ) → u < 64 → getD cells (r + u) None ≡ f u
 
-    relaxed-at : (cells : List (Option L)) (e : Reach) → Reads cells p → q + 64 ≤ length cells → (v : ℕ) → v < 64 → getD (relaxed good goes p q cells e) (q + v) None ≡ step good goes f v e (getD cells (q + v) None)
+    pub relaxed-at : (cells : List (Option L)) (e : Reach) → Reads cells p → q + 64 ≤ length cells → (v : ℕ) → v < 64 → getD (relaxed good goes p q cells e) (q + v) None ≡ step good goes f v e (getD cells (q + v) None)
     relaxed-at cells e reads long v low =
         ⊎-elim
         (λ y. ⊎-elim (here y) (apart y) (cases-eq (e .to) v))

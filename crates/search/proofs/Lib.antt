@@ -4,3 +4,4 @@ pub mod Walked
 pub mod Simple
 pub mod Settled
 pub mod Backwards
+pub mod Skipped

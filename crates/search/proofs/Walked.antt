@@ -45,7 +45,7 @@ module _ {L : Type 0} {good : L → L → Bool} {goes : ℕ → L → Option L} 
       ((w, e, other-way y w t), (w, e, itself w)))
       (cases-bool (good y w))
 
-  good-old : (o n : Option L) (z : L) → Good good o z → Good good (better good o n) z
+  pub good-old : (o n : Option L) (z : L) → Good good o z → Good good (better good o n) z
   good-old None None z g = g
   good-old None (Some w) z g = (w, refl, let e : None ≡ Some (g .0) = g .1 in cc)
   good-old (Some y) None z g = g
@@ -57,7 +57,7 @@ module _ {L : Type 0} {good : L → L → Bool} {goes : ℕ → L → Option L} 
   good-new (Some y) None z g = (y, refl, let e : None ≡ Some (g .0) = g .1 in cc)
   good-new (Some y) (Some w) z g = let e : w ≡ g .0 = cc in good-trans _ w z (both y w .1) (rw e (g .2))
 
-  gathered-here : (es : List Reach) (f : ℕ → Option L) (v : ℕ) (here : Option L) (z : L) → Good good here z → Good good (gathered good goes es f v here) z
+  pub gathered-here : (es : List Reach) (f : ℕ → Option L) (v : ℕ) (here : Option L) (z : L) → Good good here z → Good good (gathered good goes es f v here) z
   gathered-here [] f v here z g = g
   gathered-here (e ∷ es) f v here z g =
       gathered-here es f v (step good goes f v e here) z

@@ -1,8 +1,9 @@
 -- Rows of best labels, one cell for each of the 64 places. Assumes nothing.
+use mathlib.Core.Path.{_≡_}
 use mathlib.Core.Bool.{Bool, true, false, not, cond, _&&_, _||_}
 use mathlib.Core.List.{List, [], _∷_}
-use Prim.Native.Nat.{ℕ, zero, suc, _+_}
-use lib.Dec.{eqb}
+use Prim.Native.Nat.{ℕ, zero, suc, _+_, _-_, _*_, _<_, _≤_}
+use lib.Dec.{eqb, ltb}
 use lib.ListN.{getD, set}
 use Rattle.std.specs.declared.option.Option.{Option}
 use Rattle.std.specs.declared.option.Option.the-variants.{Some, None}
@@ -65,3 +66,11 @@ rounded good goes p q cells (e ∷ es) = rounded good goes p q (relaxed good goe
 abbrev pub stirred : {L : Type 0} → (L → L → Bool) → (ℕ → L → Option L) → ℕ → ℕ → List (Option L) → Bool → List Reach → Bool
 stirred good goes p q cells b [] = b
 stirred good goes p q cells b (e ∷ es) = stirred good goes p q (relaxed good goes p q cells e) (b || tells good goes p q cells e) es
+
+-- whether the label at a place was bettered in the round before round k
+abbrev pub fresh : {L : Type 0} → (L → L → Bool) → List (Option L) → ℕ → ℕ → Bool
+fresh good cells k u = ltb u 64 && (ltb k 2 || bettering good (getD cells (64 * (k - 2) + u) None) (getD cells (64 * (k - 1) + u) None))
+
+-- row k - 1 came from row k - 2 by a round over the reaches, if there is a row k - 2
+abbrev pub Round-before : {L : Type 0} → (L → L → Bool) → (ℕ → L → Option L) → List Reach → List (Option L) → ℕ → Type 0
+Round-before good goes es cells k = 2 ≤ k → (v : ℕ) → v < 64 → getD cells (64 * (k - 1) + v) None ≡ gathered good goes es (λ u. getD cells (64 * (k - 2) + u) None) v (getD cells (64 * (k - 2) + v) None)

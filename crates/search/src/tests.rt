@@ -4,6 +4,7 @@ use crate::reaches::Reach;
 use crate::rows::search;
 use crate::tolls::Tolls;
 use crate::tolls::TollsReckoning;
+use crate::ways::back_step;
 use std::test::*;
 
 fn reach(from: u16, to: u16, gate: u16) -> Reach {
@@ -90,4 +91,52 @@ fn one_cell_short() -> Result<(), Fail> {
         None,
     )?;
     check_eq((cells[0], cells[1]), (Some(7), Some(7)))
+}
+
+#[test]
+fn the_way_back() -> Result<(), Fail> {
+    let reaches = [
+        reach(0, 2, 2),
+        reach(0, 1, 0),
+        reach(64, 2, 1),
+        reach(1, 2, 1),
+    ];
+    let by = Tolls { tolls: &[3, 4, 10] };
+    let mut cells = [None; 4096];
+    check_eq(
+        search(&by, Direction::Along, &reaches, 0, 5, &mut cells),
+        Some(3),
+    )?;
+    check_eq(
+        back_step(&by, Direction::Along, &reaches, &cells, 1, 2),
+        Some(0),
+    )?;
+    check_eq(
+        back_step(&by, Direction::Along, &reaches, &cells, 2, 2),
+        Some(3),
+    )?;
+    check_eq(
+        back_step(&by, Direction::Along, &reaches, &cells, 1, 1),
+        Some(1),
+    )?;
+    check_eq(
+        back_step(&by, Direction::Along, &reaches, &cells, 2, 3),
+        None,
+    )?;
+    check_eq(
+        back_step(&by, Direction::Along, &reaches, &cells, 0, 0),
+        None,
+    )?;
+    check_eq(
+        back_step(&by, Direction::Along, &reaches, &cells, 64, 0),
+        None,
+    )?;
+    check_eq(
+        back_step(&by, Direction::Along, &reaches, &cells, 1, 64),
+        None,
+    )?;
+    check_eq(
+        back_step(&by, Direction::Along, &reaches, &cells[0..4095], 1, 1),
+        None,
+    )
 }

@@ -27,3 +27,8 @@ span-text n = codes "gate " ++ (decimal (n .gate) ++ (codes " from " ++ (decimal
 abbrev pub reply-text : List ℕ → Option ℕ → List ℕ
 reply-text done None = done
 reply-text done (Some n) = codes "declined " ++ decimal n
+
+-- the label of a place in a row of a search
+abbrev pub cell-text : Option ℕ → List ℕ
+cell-text None = codes "-"
+cell-text (Some n) = decimal n

@@ -1,6 +1,6 @@
 // A search over a small chart, printed row by row.
-use crate::texts::Row;
-use crate::texts::RowDisplay;
+use crate::texts::Cell;
+use crate::texts::CellDisplay;
 use search::reaches::Direction;
 use search::reaches::Reach;
 use search::rows::search;
@@ -37,15 +37,18 @@ pub(crate) fn show_search(rt: &LibcRuntime) -> io::Result<()> {
     println!(rt, "search from place 0, gates with tolls 3, 4 and 10")?;
     if let Some(last) = search(&by, Direction::Along, &reaches, 0, 0, &mut cells) {
         for k in 0..last.min(63) + 1 {
-            let row = Row {
-                labels: [
-                    cells[64 * k],
-                    cells[64 * k + 1],
-                    cells[64 * k + 2],
-                    cells[64 * k + 3],
-                ],
+            let at = 64 * k;
+            let a = Cell { label: cells[at] };
+            let b = Cell {
+                label: cells[at + 1],
             };
-            println!(rt, "row {k}:{row}")?;
+            let c = Cell {
+                label: cells[at + 2],
+            };
+            let d = Cell {
+                label: cells[at + 3],
+            };
+            println!(rt, "row {k}: {a} {b} {c} {d}")?;
         }
     }
     Ok(())

@@ -2,7 +2,7 @@
 ghost use denote.Ref.{now};
 ghost use Rattle.layers.specs.Notices.{declined};
 ghost use Rattle.std.specs.declared.option.Option.the-variants.{Some};
-ghost use Rattle.woldrine.specs.Texts.{passage-text, check-text, span-text, reply-text};
+ghost use Rattle.woldrine.specs.Texts.{passage-text, check-text, span-text, reply-text, cell-text};
 use books::book::Instant;
 use books::faults::Finding;
 use layers::notices::Notice;
@@ -86,24 +86,19 @@ pub impl fmt::Display for Reply<'_> as ReplyDisplay {
     }
 }
 
-// The labels of the places 0 to 3 in one row of a search.
+// The label of a place in a row of a search, if it has one.
 #[derive(Clone, Copy)]
-pub struct Row {
-    pub labels: [Option<u16>; 4],
+pub struct Cell {
+    pub label: Option<u16>,
 }
 
-fn show_label<W: fmt::Write>(label: Option<u16>, f: &mut fmt::Formatter<W>) -> fmt::Result {
-    match label {
-        None => write!(f, " -"),
-        Some(n) => write!(f, " {n}"),
-    }
-}
+pub impl fmt::Display for Cell as CellDisplay {
+    ghost shown = { λ c. Some (cell-text (c .label)) };
 
-pub impl fmt::Display for Row as RowDisplay {
     fn fmt<W: fmt::Write>(&self, f: &mut fmt::Formatter<W>) -> fmt::Result {
-        show_label(self.labels[0], f)?;
-        show_label(self.labels[1], f)?;
-        show_label(self.labels[2], f)?;
-        show_label(self.labels[3], f)
+        match self.label {
+            None => write!(f, "-"),
+            Some(n) => write!(f, "{n}"),
+        }
     }
 }

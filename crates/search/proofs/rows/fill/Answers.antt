@@ -1,12 +1,12 @@
 use mathlib.Core.Path.{_≡_, refl, sym, ap, _∙_}
 use native.Mathlib.Omega.{arith}
 use Prim.Native.Nat.{ℕ, _+_, _-_, _*_, _<_, _≤_}
-use lib.ListN.{getD}
+use lib.ListN.{getD, length}
 use Rattle.std.specs.declared.option.Option.the-variants.{None}
 use Rattle.search.specs.Reaches.{all-turned}
 use Rattle.search.specs.Rows.{best, last-from}
 use Rattle.search.proofs.Best.{rows-more, told-row, round-on, round-off}
-use Rattle.search.proofs.rows.fill.Given as given
+use Rattle.search.proofs.Skipped.{before-rows}
 use Rattle.search.proofs.rows.fill.Needs as need
 
 pub rounds-holds : need.rounds-holds
@@ -20,6 +20,16 @@ rounds-holds g c =
       (λ j v l h. let z : 0 ≡ j = omega arith in let i : 64 * j + v ≡ v = omega arith in ap (λ (n : ℕ). getD cells n None) i ∙ ap (λ (n : ℕ). best a b es (λ u. getD cells u None) n v) z),
       λ j h. refl,
     )
+
+pub advance-told-requires : need.advance-told-requires
+advance-told-requires g c κs =
+    let some : 0 < c .rounds .k = omega arith in
+    let low : c .rounds .k < 64 = omega arith in
+    let long : 4096 ≤ length (c .rounds .cells) = omega arith in
+    record {
+      sizes = (some, (low, long));
+      before = before-rows (g .R·Reckoning .good (c .args .by .now)) (g .R·Reckoning .goes (c .args .by .now)) (all-turned (c .args .direction) (c .args .reaches .now)) (c .rounds .k) (λ u. getD (c .args .cells .now) u None) (c .rounds .cells) (c .rounds .inv .2);
+    }
 
 pub rounds-again : need.rounds-again
 rounds-again g c =
