@@ -1,4 +1,6 @@
 // Books: when each gate lets a boat in, and when the boat comes out.
+#![tactic(auto)]
+
 pub mod book;
 pub mod faults;
 pub mod passages;

@@ -1,4 +1,6 @@
 // Plans a delivery through a timed gate and a tide gate, under a notice and without it, and checks books that have faults.
+#![tactic(auto)]
+
 use crate::calls::{fewest, foremost, latest, lay, lift, post};
 use crate::texts::Checked;
 use books::book::{Book, Gate, Instant};

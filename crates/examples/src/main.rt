@@ -1,4 +1,6 @@
 // Reads cases from standard input, carries them out through the planner, and prints each with its reply.
+#![tactic(auto)]
+
 use crate::cases::read_cases;
 use crate::runs::run;
 use std::io;

@@ -1,4 +1,6 @@
 // Layers over any book: two books side by side, and notices that shut gates for a time.
+#![tactic(auto)]
+
 pub mod notices;
 #[cfg(test)]
 mod tests;

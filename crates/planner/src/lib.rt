@@ -1,4 +1,6 @@
 // The passage planner: reaches and notices over a book, and the questions that it answers.
+#![tactic(auto)]
+
 pub mod charts;
 mod departures;
 pub mod legs;

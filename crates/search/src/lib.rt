@@ -1,4 +1,6 @@
 // One search by rising number of reaches, for every reckoning that keeps the laws.
+#![tactic(auto)]
+
 pub mod reaches;
 pub mod reckoning;
 mod rounds;

@@ -8,7 +8,7 @@ use crate::reckoning::Reckoning;
 
 // How a label, if there is one, goes on.
 pub(crate) fn go_on<R: Reckoning>(by: &R, gate: Gate, here: Option<R::Label>) -> Option<R::Label>
-    ensures { result ≡ onward (goes by.now) gate here }
+    ensures { result ≡ onward (R.goes by.now) gate here }
 {
     match here {
         Some(x) => by.go(gate, x),
@@ -18,7 +18,7 @@ pub(crate) fn go_on<R: Reckoning>(by: &R, gate: Gate, here: Option<R::Label>) ->
 
 // Whether the new label betters the old.
 pub(crate) fn betters<R: Reckoning>(by: &R, old: Option<R::Label>, new: Option<R::Label>) -> bool
-    ensures { result ≡ bettering (good by.now) old new }
+    ensures { result ≡ bettering (R.good by.now) old new }
 {
     match (old, new) {
         (_, None) => false,
@@ -30,8 +30,8 @@ pub(crate) fn betters<R: Reckoning>(by: &R, old: Option<R::Label>, new: Option<R
 // Takes one reach on, from the row at p into the row at q, and says whether it betters its end.
 fn relax<R: Reckoning>(by: &R, cells: &mut [Option<R::Label>], p: usize, q: usize, e: Reach) -> bool
     requires { (p + 64 ≤ length cells.old) × (q + 64 ≤ length cells.old) }
-    ensures cells { cells.new ≡ relaxed (good by.now) (goes by.now) p q cells.old e }
-    ensures told { result ≡ tells (good by.now) (goes by.now) p q cells.old e }
+    ensures cells { cells.new ≡ relaxed (R.good by.now) (R.goes by.now) p q cells.old e }
+    ensures told { result ≡ tells (R.good by.now) (R.goes by.now) p q cells.old e }
 {
     if e.from >= PLACES || e.to >= PLACES {
         return false;
@@ -49,7 +49,7 @@ fn relax<R: Reckoning>(by: &R, cells: &mut [Option<R::Label>], p: usize, q: usiz
 // Whether the label of a place was bettered in the round before round k; each label of row 0 counts as such.
 fn is_new<R: Reckoning>(by: &R, cells: &[Option<R::Label>], k: usize, place: Place) -> bool
     requires { (0 < k) × (64 * k ≤ length cells.now) }
-    ensures { result ≡ fresh (good by.now) cells.now k place }
+    ensures { result ≡ fresh (R.good by.now) cells.now k place }
 {
     if place >= PLACES {
         return false;
@@ -73,8 +73,8 @@ pub(crate) fn pass<R: Reckoning>(
     k: usize,
 ) -> bool
     requires { (0 < k) × (64 * k + 64 ≤ length cells.old) }
-    ensures cells { Carried (good by.now) (goes by.now) (all_turned direction reaches.now) cells.old k → cells.new ≡ rounded (good by.now) (goes by.now) (64 * (k - 1)) (64 * k) cells.old (all_turned direction reaches.now) }
-    ensures told { Carried (good by.now) (goes by.now) (all_turned direction reaches.now) cells.old k → result ≡ stirred (good by.now) (goes by.now) (64 * (k - 1)) (64 * k) cells.old false (all_turned direction reaches.now) }
+    ensures cells { Carried (R.good by.now) (R.goes by.now) (all_turned direction reaches.now) cells.old k → cells.new ≡ rounded (R.good by.now) (R.goes by.now) (64 * (k - 1)) (64 * k) cells.old (all_turned direction reaches.now) }
+    ensures told { Carried (R.good by.now) (R.goes by.now) (all_turned direction reaches.now) cells.old k → result ≡ stirred (R.good by.now) (R.goes by.now) (64 * (k - 1)) (64 * k) cells.old false (all_turned direction reaches.now) }
     ensures below { (j : ℕ) → j < 64 * k → slice_index_or cells.new j None ≡ slice_index_or cells.old j None }
     ensures above { (j : ℕ) → 64 * k + 64 ≤ j → slice_index_or cells.new j None ≡ slice_index_or cells.old j None }
 {
@@ -99,9 +99,9 @@ fn round<R: Reckoning>(
 ) -> bool
     requires sizes { (0 < k) × (64 * k + 64 ≤ length cells.old) }
     requires carried { (v : ℕ) → v < 64 → slice_index_or cells.old (64 * k + v) None ≡ slice_index_or cells.old (64 * (k - 1) + v) None }
-    requires before { RoundBefore (good by.now) (goes by.now) (all_turned direction reaches.now) cells.old k }
-    ensures cells { cells.new ≡ rounded (good by.now) (goes by.now) (64 * (k - 1)) (64 * k) cells.old (all_turned direction reaches.now) }
-    ensures told { result ≡ stirred (good by.now) (goes by.now) (64 * (k - 1)) (64 * k) cells.old false (all_turned direction reaches.now) }
+    requires before { RoundBefore (R.good by.now) (R.goes by.now) (all_turned direction reaches.now) cells.old k }
+    ensures cells { cells.new ≡ rounded (R.good by.now) (R.goes by.now) (64 * (k - 1)) (64 * k) cells.old (all_turned direction reaches.now) }
+    ensures told { result ≡ stirred (R.good by.now) (R.goes by.now) (64 * (k - 1)) (64 * k) cells.old false (all_turned direction reaches.now) }
 {
     pass(by, direction, reaches, cells, k)
 }
@@ -128,11 +128,11 @@ pub(crate) fn advance<R: Reckoning>(
     k: usize,
 ) -> bool
     requires sizes { (0 < k) × ((k < 64) × (4096 ≤ length cells.old)) }
-    requires before { RoundBefore (good by.now) (goes by.now) (all_turned direction reaches.now) cells.old k }
-    ensures row { (v : ℕ) → v < 64 → slice_index_or cells.new (64 * k + v) None ≡ gathered (good by.now) (goes by.now) (all_turned direction reaches.now) (λ u. get_or cells.old (64 * (k - 1) + u) None) v (slice_index_or cells.old (64 * (k - 1) + v) None) }
+    requires before { RoundBefore (R.good by.now) (R.goes by.now) (all_turned direction reaches.now) cells.old k }
+    ensures row { (v : ℕ) → v < 64 → slice_index_or cells.new (64 * k + v) None ≡ gathered (R.good by.now) (R.goes by.now) (all_turned direction reaches.now) (λ u. get_or cells.old (64 * (k - 1) + u) None) v (slice_index_or cells.old (64 * (k - 1) + v) None) }
     ensures below { (j : ℕ) → j < 64 * k → slice_index_or cells.new j None ≡ slice_index_or cells.old j None }
     ensures above { (j : ℕ) → 64 * k + 64 ≤ j → slice_index_or cells.new j None ≡ slice_index_or cells.old j None }
-    ensures told { result ≡ stirs (good by.now) (goes by.now) (all_turned direction reaches.now) (λ u. get_or cells.old (64 * (k - 1) + u) None) }
+    ensures told { result ≡ stirs (R.good by.now) (R.goes by.now) (all_turned direction reaches.now) (λ u. get_or cells.old (64 * (k - 1) + u) None) }
 {
     carry(cells, 64 * (k - 1), 64 * k);
     round(by, direction, reaches, cells, k)

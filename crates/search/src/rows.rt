@@ -33,8 +33,8 @@ fn fill<R: Reckoning>(
     cells: &mut [Option<R::Label>],
 ) -> usize
     requires { 4096 ≤ length cells.old }
-    ensures last { result ≡ last_from (good by.now) (goes by.now) (all_turned direction reaches.now) (λ u. get_or cells.old u None) 63 0 }
-    ensures rows { (k v : ℕ) → k ≤ result → v < 64 → slice_index_or cells.new (64 * k + v) None ≡ best (good by.now) (goes by.now) (all_turned direction reaches.now) (λ u. get_or cells.old u None) k v }
+    ensures last { result ≡ last_from (R.good by.now) (R.goes by.now) (all_turned direction reaches.now) (λ u. get_or cells.old u None) 63 0 }
+    ensures rows { (k v : ℕ) → k ≤ result → v < 64 → slice_index_or cells.new (64 * k + v) None ≡ best (R.good by.now) (R.goes by.now) (all_turned direction reaches.now) (λ u. get_or cells.old u None) k v }
     ensures above { (j : ℕ) → 64 * result + 64 ≤ j → slice_index_or cells.new j None ≡ slice_index_or cells.old j None }
 {
     let mut last = 0;
@@ -58,9 +58,9 @@ pub fn search<R: Reckoning>(
     label: R::Label,
     cells: &mut [Option<R::Label>],
 ) -> Option<usize>
-    ensures last { result ≡ last_row (good by.now) (goes by.now) (all_turned direction reaches.now) start label cells.old }
-    ensures filled { Filled (good by.now) (goes by.now) (all_turned direction reaches.now) start label cells.old cells.new result }
-    ensures walks { Searched (good by.now) (goes by.now) (all_turned direction reaches.now) start label cells.new result }
+    ensures last { result ≡ last_row (R.good by.now) (R.goes by.now) (all_turned direction reaches.now) start label cells.old }
+    ensures filled { Filled (R.good by.now) (R.goes by.now) (all_turned direction reaches.now) start label cells.old cells.new result }
+    ensures walks { Searched (R.good by.now) (R.goes by.now) (all_turned direction reaches.now) start label cells.new result }
 {
     if cells.len() < CELLS {
         return None;
@@ -89,10 +89,10 @@ fn step<R: Reckoning>(
     k: usize,
 ) -> bool
     requires { (0 < k) × ((k < 64) × (4096 ≤ length cells.old)) }
-    ensures row { RoundBefore (good by.now) (goes by.now) (all_turned direction reaches.now) cells.old k → (v : ℕ) → v < 64 → slice_index_or cells.new (64 * k + v) None ≡ gathered (good by.now) (goes by.now) (all_turned direction reaches.now) (λ u. get_or cells.old (64 * (k - 1) + u) None) v (slice_index_or cells.old (64 * (k - 1) + v) None) }
+    ensures row { RoundBefore (R.good by.now) (R.goes by.now) (all_turned direction reaches.now) cells.old k → (v : ℕ) → v < 64 → slice_index_or cells.new (64 * k + v) None ≡ gathered (R.good by.now) (R.goes by.now) (all_turned direction reaches.now) (λ u. get_or cells.old (64 * (k - 1) + u) None) v (slice_index_or cells.old (64 * (k - 1) + v) None) }
     ensures below { (j : ℕ) → j < 64 * k → slice_index_or cells.new j None ≡ slice_index_or cells.old j None }
     ensures above { (j : ℕ) → 64 * k + 64 ≤ j → slice_index_or cells.new j None ≡ slice_index_or cells.old j None }
-    ensures told { RoundBefore (good by.now) (goes by.now) (all_turned direction reaches.now) cells.old k → result ≡ stirs (good by.now) (goes by.now) (all_turned direction reaches.now) (λ u. get_or cells.old (64 * (k - 1) + u) None) }
+    ensures told { RoundBefore (R.good by.now) (R.goes by.now) (all_turned direction reaches.now) cells.old k → result ≡ stirs (R.good by.now) (R.goes by.now) (all_turned direction reaches.now) (λ u. get_or cells.old (64 * (k - 1) + u) None) }
 {
     carry(cells, 64 * (k - 1), 64 * k);
     pass(by, direction, reaches, cells, k)
@@ -107,7 +107,7 @@ pub fn next_row<R: Reckoning>(
     cells: &mut [Option<R::Label>],
     row: usize,
 ) -> bool
-    ensures { NextRow (good by.now) (goes by.now) (all_turned direction reaches.now) row cells.old cells.new result }
+    ensures { NextRow (R.good by.now) (R.goes by.now) (all_turned direction reaches.now) row cells.old cells.new result }
 {
     let held = 0 < row && row < 64 && cells.len() >= CELLS;
     held && step(by, direction, reaches, cells, row)

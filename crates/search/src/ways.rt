@@ -18,7 +18,7 @@ fn brings_to<R: Reckoning>(
     e: Reach,
 ) -> bool
     requires { p + 64 ≤ length cells.now }
-    ensures { result ≡ brings (good by.now) (goes by.now) (λ u. slice_index_or cells.now (p + u) None) place z e }
+    ensures { result ≡ brings (R.good by.now) (R.goes by.now) (λ u. slice_index_or cells.now (p + u) None) place z e }
 {
     if e.from >= PLACES || e.to >= PLACES || e.to != place {
         return false;
@@ -38,7 +38,7 @@ fn first_bringer<R: Reckoning>(
     z: R::Label,
 ) -> Option<usize>
     requires { p + 64 ≤ length cells.now }
-    ensures { result ≡ bringer (good by.now) (goes by.now) (λ u. slice_index_or cells.now (p + u) None) place z 0 (all_turned direction reaches.now) }
+    ensures { result ≡ bringer (R.good by.now) (R.goes by.now) (λ u. slice_index_or cells.now (p + u) None) place z 0 (all_turned direction reaches.now) }
 {
     for (i, reach) in reaches.iter().enumerate() {
         if brings_to(by, cells, p, place, z, direction.turn(*reach)) {
@@ -58,8 +58,8 @@ pub fn back_step<R: Reckoning>(
     row: usize,
     place: Place,
 ) -> Option<usize>
-    ensures step { result ≡ step_back (good by.now) (goes by.now) (all_turned direction reaches.now) cells.now row place }
-    ensures walks { WaysBackAreWalks (good by.now) (goes by.now) (all_turned direction reaches.now) cells.now }
+    ensures step { result ≡ step_back (R.good by.now) (R.goes by.now) (all_turned direction reaches.now) cells.now row place }
+    ensures walks { WaysBackAreWalks (R.good by.now) (R.goes by.now) (all_turned direction reaches.now) cells.now }
 {
     if row == 0 || row >= 64 || place >= PLACES || cells.len() < CELLS {
         return None;

@@ -1,5 +1,7 @@
 // Takes a boat through a timed gate and a tide gate, out and back, then the same under notices, and checks
 // books that have faults.
+#![tactic(auto)]
+
 use crate::charts::show_search;
 use crate::notes::{lift, post};
 use crate::texts::Checked;

@@ -19,7 +19,7 @@ pub loop-place-preserved : goal.loop-place-preserved
 loop-place-preserved g c =
     let faults = g.R.Record.faults c.args.gates in
     let it = c.index-records-place.result in
-    let none = subst (λ (r : g.row.R.Denot). None ≡ head (faults r)) c.index-records-place.is c.in-default.ensures in
+    let none = subst (λ (r : g.row.R.Denot). None ≡ head (faults r)) c.index-records-place.is c.in_default.ensures in
     first_again faults c.args.records.now c.loop-place.place c.loop-place.invariant it c.loop-place-test.true none
 
 pub returns : goal.returns

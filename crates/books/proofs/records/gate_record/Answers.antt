@@ -10,11 +10,11 @@ returns-in-None g c =
     let rs = c.args.entries.now in
     let r = c.index-entries-from.result in
     let found : slice_get rs c.args.gate ≡ Some r = slice_get_read rs (length rs) c.args.gate r refl (omega arith) (subst (λ (i : ℕ). r ≡ get_or rs i r) c.from.ensures c.index-entries-from.is) in
-    gate_sound g.R.Record.faults rs c.args.gate c.gate-count-gates.result r c.gate-count-gates.ensures c.if-gate-gates.false found c.in-None.ensures
+    gate_sound g.R.Record.faults rs c.args.gate c.gate_count-gates.result r c.gate_count-gates.ensures c.if-gate-gates.false found c.in-None.ensures
 
 pub returns-in-Some : goal.returns-in-Some
 returns-in-Some g c =
     let rs = c.args.entries.now in
     let r = c.index-entries-from.result in
     let found : slice_get rs c.args.gate ≡ Some r = slice_get_read rs (length rs) c.args.gate r refl (omega arith) (subst (λ (i : ℕ). r ≡ get_or rs i r) c.from.ensures c.index-entries-from.is) in
-    gate_faulty g.R.Record.faults rs c.args.gate c.gate-count-gates.result r c.gate-count-gates.ensures c.if-gate-gates.false found _ c.in-Some.ensures
+    gate_faulty g.R.Record.faults rs c.args.gate c.gate_count-gates.result r c.gate_count-gates.ensures c.if-gate-gates.false found _ c.in-Some.ensures

@@ -19,7 +19,7 @@ rounds-init g c =
     let to = c.args.to in
     let d = c.departures.d in
     let long : 4096 ≤ length c.departures.cells = omega arith in
-    rounds_begin gates ex law rs from d c.departures.cells c.first-row.new.cells c.first-row.result long c.first-row.ensures
+    rounds_begin gates ex law rs from d c.departures.cells c.first_row.new.cells c.first_row.result long c.first_row.ensures
 
 pub rounds-preserved : goal.rounds-preserved
 rounds-preserved g c =
@@ -33,10 +33,10 @@ rounds-preserved g c =
     let d = c.departures.d in
     let some : 0 < c.rounds.k = omega arith in
     let long : 4096 ≤ length c.rounds.cells = omega arith in
-    rounds_more gates ex law rs from d c.rounds.k c.rounds.new c.rounds.cells c.next-row-told.new.cells c.next-row-told.result some c.rounds-test.true long c.rounds.invariant c.next-row-told.ensures c.if-not-told.false
+    rounds_more gates ex law rs from d c.rounds.k c.rounds.new c.rounds.cells c.next_row-told.new.cells c.next_row-told.result some c.rounds-test.true long c.rounds.invariant c.next_row-told.ensures c.if-not-told.false
 
-pub label-at-requires : goal.label-at-requires
-label-at-requires g c =
+pub label_at-requires : goal.label_at-requires
+label_at-requires g c =
     let b = c.args.book.now in
     let gates = g.B.Book.gates b in
     let ex = g.B.Book.exits b in
@@ -49,12 +49,12 @@ label-at-requires g c =
     let long : 4096 ≤ length c.rounds.cells = omega arith in
     let after : SearchedFrom gates ex law rs from d c.rounds-test.cells c.rounds-test.new = elim c.rounds-test.branch [
       | else-rounds-test w ↦ searched_at gates ex law rs from d c.rounds-test.cells c.rounds.cells c.rounds-test.new c.rounds.new w.cells-is w.last_is (rounds_end gates ex law rs from d c.rounds.k c.rounds.new c.rounds.cells (omega (arith, w.rounds-test.false)) c.rounds.invariant)
-      | then-rounds-test+then-not-told w ↦ searched_at gates ex law rs from d c.rounds-test.cells w.next-row-told.new.cells c.rounds-test.new c.rounds.k w.cells-is w.last_is (rounds_left gates ex law rs from d c.rounds.k c.rounds.new c.rounds.cells w.next-row-told.new.cells w.next-row-told.result some w.rounds-test.true long c.rounds.invariant w.next-row-told.ensures w.if-not-told.true)
+      | then-rounds-test+then-not-told w ↦ searched_at gates ex law rs from d c.rounds-test.cells w.next_row-told.new.cells c.rounds-test.new c.rounds.k w.cells-is w.last_is (rounds_left gates ex law rs from d c.rounds.k c.rounds.new c.rounds.cells w.next_row-told.new.cells w.next_row-told.result some w.rounds-test.true long c.rounds.invariant w.next_row-told.ensures w.if-not-told.true)
     ] in
     (omega (arith, after.0), (c.requires.asked.1.0, omega arith))
 
-pub overflow-sub-arrival : goal.overflow-sub-arrival
-overflow-sub-arrival g c =
+pub overflow_sub-arrival : goal.overflow_sub-arrival
+overflow_sub-arrival g c =
     let b = c.args.book.now in
     let gates = g.B.Book.gates b in
     let ex = g.B.Book.exits b in
@@ -67,15 +67,15 @@ overflow-sub-arrival g c =
     let long : 4096 ≤ length c.rounds.cells = omega arith in
     let after : SearchedFrom gates ex law rs from d c.rounds-test.cells c.rounds-test.new = elim c.rounds-test.branch [
       | else-rounds-test w ↦ searched_at gates ex law rs from d c.rounds-test.cells c.rounds.cells c.rounds-test.new c.rounds.new w.cells-is w.last_is (rounds_end gates ex law rs from d c.rounds.k c.rounds.new c.rounds.cells (omega (arith, w.rounds-test.false)) c.rounds.invariant)
-      | then-rounds-test+then-not-told w ↦ searched_at gates ex law rs from d c.rounds-test.cells w.next-row-told.new.cells c.rounds-test.new c.rounds.k w.cells-is w.last_is (rounds_left gates ex law rs from d c.rounds.k c.rounds.new c.rounds.cells w.next-row-told.new.cells w.next-row-told.result some w.rounds-test.true long c.rounds.invariant w.next-row-told.ensures w.if-not-told.true)
+      | then-rounds-test+then-not-told w ↦ searched_at gates ex law rs from d c.rounds-test.cells w.next_row-told.new.cells c.rounds-test.new c.rounds.k w.cells-is w.last_is (rounds_left gates ex law rs from d c.rounds.k c.rounds.new c.rounds.cells w.next_row-told.new.cells w.next_row-told.result some w.rounds-test.true long c.rounds.invariant w.next_row-told.ensures w.if-not-told.true)
     ] in
     let row = row_of c.rounds-test.cells c.rounds-test.new to in
-    let arr = arrival gates ex law rs c.requires.charted from to d c.if-d-le-LAST-INSTANT.true row (row_best no_later (comes_out ex) (all_turned Along rs) from d c.rounds-test.cells c.rounds-test.new after.1 to c.requires.asked.1.0 row refl) in
-    let first = subst (Arrival rs ex from to d) (sym c.label-at.ensures ∙ c.in-Some.is) arr in
+    let arr = arrival gates ex law rs c.requires.charted from to d c.if-d-le-LAST_INSTANT.true row (row_best no_later (comes_out ex) (all_turned Along rs) from d c.rounds-test.cells c.rounds-test.new after.1 to c.requires.asked.1.0 row refl) in
+    let first = subst (Arrival rs ex from to d) (sym c.label_at.ensures ∙ c.in-Some.is) arr in
     first.later
 
-pub leaving-for-leaves-requires : goal.leaving-for-leaves-requires
-leaving-for-leaves-requires g c =
+pub leaving_for-leaves-requires : goal.leaving_for-leaves-requires
+leaving_for-leaves-requires g c =
     let b = c.args.book.now in
     let gates = g.B.Book.gates b in
     let ex = g.B.Book.exits b in
@@ -88,18 +88,18 @@ leaving-for-leaves-requires g c =
     let long : 4096 ≤ length c.rounds.cells = omega arith in
     let after : SearchedFrom gates ex law rs from d c.rounds-test.cells c.rounds-test.new = elim c.rounds-test.branch [
       | else-rounds-test w ↦ searched_at gates ex law rs from d c.rounds-test.cells c.rounds.cells c.rounds-test.new c.rounds.new w.cells-is w.last_is (rounds_end gates ex law rs from d c.rounds.k c.rounds.new c.rounds.cells (omega (arith, w.rounds-test.false)) c.rounds.invariant)
-      | then-rounds-test+then-not-told w ↦ searched_at gates ex law rs from d c.rounds-test.cells w.next-row-told.new.cells c.rounds-test.new c.rounds.k w.cells-is w.last_is (rounds_left gates ex law rs from d c.rounds.k c.rounds.new c.rounds.cells w.next-row-told.new.cells w.next-row-told.result some w.rounds-test.true long c.rounds.invariant w.next-row-told.ensures w.if-not-told.true)
+      | then-rounds-test+then-not-told w ↦ searched_at gates ex law rs from d c.rounds-test.cells w.next_row-told.new.cells c.rounds-test.new c.rounds.k w.cells-is w.last_is (rounds_left gates ex law rs from d c.rounds.k c.rounds.new c.rounds.cells w.next_row-told.new.cells w.next_row-told.result some w.rounds-test.true long c.rounds.invariant w.next_row-told.ensures w.if-not-told.true)
     ] in
     let row = row_of c.rounds-test.cells c.rounds-test.new to in
-    let arr = arrival gates ex law rs c.requires.charted from to d c.if-d-le-LAST-INSTANT.true row (row_best no_later (comes_out ex) (all_turned Along rs) from d c.rounds-test.cells c.rounds-test.new after.1 to c.requires.asked.1.0 row refl) in
-    let first = subst (Arrival rs ex from to d) (sym c.label-at.ensures ∙ c.in-Some.is) arr in
+    let arr = arrival gates ex law rs c.requires.charted from to d c.if-d-le-LAST_INSTANT.true row (row_best no_later (comes_out ex) (all_turned Along rs) from d c.rounds-test.cells c.rounds-test.new after.1 to c.requires.asked.1.0 row refl) in
+    let first = subst (Arrival rs ex from to d) (sym c.label_at.ensures ∙ c.in-Some.is) arr in
     record { asked = (c.requires.asked.0, (c.requires.asked.1.0, (omega arith, c.requires.charted))); there = first }
 
-pub overflow-sub-d : goal.overflow-sub-d
-overflow-sub-d g c = elim c.if-arrival-d.branch [ then-arrival-d w ↦ omega (arith, w.time-is) | else-arrival-d w ↦ omega (arith, w.time-is, w.if-arrival-d.false) ]
+pub overflow_sub-d : goal.overflow_sub-d
+overflow_sub-d g c = elim c.if-arrival-d.branch [ then-arrival-d w ↦ omega (arith, w.time-is) | else-arrival-d w ↦ omega (arith, w.time-is, w.if-arrival-d.false) ]
 
-pub overflow-add-d : goal.overflow-add-d
-overflow-add-d g c =
+pub overflow_add-d : goal.overflow_add-d
+overflow_add-d g c =
     let b = c.args.book.now in
     let gates = g.B.Book.gates b in
     let ex = g.B.Book.exits b in
@@ -112,19 +112,19 @@ overflow-add-d g c =
     let long : 4096 ≤ length c.rounds.cells = omega arith in
     let after : SearchedFrom gates ex law rs from d c.rounds-test.cells c.rounds-test.new = elim c.rounds-test.branch [
       | else-rounds-test w ↦ searched_at gates ex law rs from d c.rounds-test.cells c.rounds.cells c.rounds-test.new c.rounds.new w.cells-is w.last_is (rounds_end gates ex law rs from d c.rounds.k c.rounds.new c.rounds.cells (omega (arith, w.rounds-test.false)) c.rounds.invariant)
-      | then-rounds-test+then-not-told w ↦ searched_at gates ex law rs from d c.rounds-test.cells w.next-row-told.new.cells c.rounds-test.new c.rounds.k w.cells-is w.last_is (rounds_left gates ex law rs from d c.rounds.k c.rounds.new c.rounds.cells w.next-row-told.new.cells w.next-row-told.result some w.rounds-test.true long c.rounds.invariant w.next-row-told.ensures w.if-not-told.true)
+      | then-rounds-test+then-not-told w ↦ searched_at gates ex law rs from d c.rounds-test.cells w.next_row-told.new.cells c.rounds-test.new c.rounds.k w.cells-is w.last_is (rounds_left gates ex law rs from d c.rounds.k c.rounds.new c.rounds.cells w.next_row-told.new.cells w.next_row-told.result some w.rounds-test.true long c.rounds.invariant w.next_row-told.ensures w.if-not-told.true)
     ] in
     let row = row_of c.rounds-test.cells c.rounds-test.new to in
-    let arr = arrival gates ex law rs c.requires.charted from to d c.if-d-le-LAST-INSTANT.true row (row_best no_later (comes_out ex) (all_turned Along rs) from d c.rounds-test.cells c.rounds-test.new after.1 to c.requires.asked.1.0 row refl) in
-    let first = subst (Arrival rs ex from to d) (sym c.label-at.ensures ∙ c.in-Some.is) arr in
+    let arr = arrival gates ex law rs c.requires.charted from to d c.if-d-le-LAST_INSTANT.true row (row_best no_later (comes_out ex) (all_turned Along rs) from d c.rounds-test.cells c.rounds-test.new after.1 to c.requires.asked.1.0 row refl) in
+    let first = subst (Arrival rs ex from to d) (sym c.label_at.ensures ∙ c.in-Some.is) arr in
     let top : c.in-Some.arrival ≤ 20160 = first.within in
     search rules
 
 pub departures-smaller : goal.departures-smaller
 departures-smaller g c =
-    let low = c.if-d-le-LAST-INSTANT.true in
+    let low = c.if-d-le-LAST_INSTANT.true in
     elim c.if-arrival-d.branch [
-      | then-arrival-d w ↦ omega (arith, w.time-is, w.leaving-for-leaves.ensures.since, w.leaving-for-leaves.ensures.first.later)
+      | then-arrival-d w ↦ omega (arith, w.time-is, w.leaving_for-leaves.ensures.since, w.leaving_for-leaves.ensures.first.later)
       | else-arrival-d w ↦ omega (arith, w.time-is, w.if-arrival-d.false)
     ]
 
@@ -142,18 +142,18 @@ departures-preserved g c =
     let long : 4096 ≤ length c.rounds.cells = omega arith in
     let after : SearchedFrom gates ex law rs from d c.rounds-test.cells c.rounds-test.new = elim c.rounds-test.branch [
       | else-rounds-test w ↦ searched_at gates ex law rs from d c.rounds-test.cells c.rounds.cells c.rounds-test.new c.rounds.new w.cells-is w.last_is (rounds_end gates ex law rs from d c.rounds.k c.rounds.new c.rounds.cells (omega (arith, w.rounds-test.false)) c.rounds.invariant)
-      | then-rounds-test+then-not-told w ↦ searched_at gates ex law rs from d c.rounds-test.cells w.next-row-told.new.cells c.rounds-test.new c.rounds.k w.cells-is w.last_is (rounds_left gates ex law rs from d c.rounds.k c.rounds.new c.rounds.cells w.next-row-told.new.cells w.next-row-told.result some w.rounds-test.true long c.rounds.invariant w.next-row-told.ensures w.if-not-told.true)
+      | then-rounds-test+then-not-told w ↦ searched_at gates ex law rs from d c.rounds-test.cells w.next_row-told.new.cells c.rounds-test.new c.rounds.k w.cells-is w.last_is (rounds_left gates ex law rs from d c.rounds.k c.rounds.new c.rounds.cells w.next_row-told.new.cells w.next_row-told.result some w.rounds-test.true long c.rounds.invariant w.next_row-told.ensures w.if-not-told.true)
     ] in
     let row = row_of c.rounds-test.cells c.rounds-test.new to in
-    let arr = arrival gates ex law rs c.requires.charted from to d c.if-d-le-LAST-INSTANT.true row (row_best no_later (comes_out ex) (all_turned Along rs) from d c.rounds-test.cells c.rounds-test.new after.1 to c.requires.asked.1.0 row refl) in
-    let first = subst (Arrival rs ex from to d) (sym c.label-at.ensures ∙ c.in-Some.is) arr in
+    let arr = arrival gates ex law rs c.requires.charted from to d c.if-d-le-LAST_INSTANT.true row (row_best no_later (comes_out ex) (all_turned Along rs) from d c.rounds-test.cells c.rounds-test.new after.1 to c.requires.asked.1.0 row refl) in
+    let first = subst (Arrival rs ex from to d) (sym c.label_at.ensures ∙ c.in-Some.is) arr in
     let e = c.in-Some.arrival in
     let time = c.if-arrival-d.time in
     elim c.if-arrival-d.branch [
       | then-arrival-d w ↦
-          let r = w.leaving-for-leaves.result in
-          let step : w.leaving-for-leaves.result + 1 ≡ c.in-Some.arrival - c.if-arrival-d.time + 1 = omega (arith, w.time-is, w.leaving-for-leaves.ensures.first.later) in
-          let held = so_faster gates ex law rs c.requires.charted from to c.args.ready d c.departures.time c.departures.best c.departures.invariant e first w.if-arrival-d.true r w.leaving-for-leaves.ensures.since w.leaving-for-leaves.ensures.first in
+          let r = w.leaving_for-leaves.result in
+          let step : w.leaving_for-leaves.result + 1 ≡ c.in-Some.arrival - c.if-arrival-d.time + 1 = omega (arith, w.time-is, w.leaving_for-leaves.ensures.first.later) in
+          let held = so_faster gates ex law rs c.requires.charted from to c.args.ready d c.departures.time c.departures.best c.departures.invariant e first w.if-arrival-d.true r w.leaving_for-leaves.ensures.since w.leaving_for-leaves.ensures.first in
           subst (λ (o : Option ℕ). HeldSoFar rs ex from to c.args.ready (e - time + 1) o time) (sym w.best-is)
           (subst (λ (m : ℕ). HeldSoFar rs ex from to c.args.ready m (Some r) time) step
           (subst (λ (m : ℕ). HeldSoFar rs ex from to c.args.ready (r + 1) (Some r) m) (sym w.time-is) held))
@@ -163,8 +163,8 @@ departures-preserved g c =
           (so_slower gates ex law rs c.requires.charted from to c.args.ready d c.departures.time c.departures.best c.departures.invariant e first w.if-arrival-d.false))
     ]
 
-pub returns-else-d-le-LAST-INSTANT : goal.returns-else-d-le-LAST-INSTANT
-returns-else-d-le-LAST-INSTANT g c =
+pub returns-else-d-le-LAST_INSTANT : goal.returns-else-d-le-LAST_INSTANT
+returns-else-d-le-LAST_INSTANT g c =
     let b = c.args.book.now in
     let gates = g.B.Book.gates b in
     let ex = g.B.Book.exits b in
@@ -173,10 +173,10 @@ returns-else-d-le-LAST-INSTANT g c =
     let from = c.args.from in
     let to = c.args.to in
     let d = c.departures.d in
-    so_past gates ex law rs c.requires.charted from to c.args.ready d c.departures.time c.departures.best c.requires.asked.1.1.0 c.departures.invariant c.if-d-le-LAST-INSTANT.false
+    so_past gates ex law rs c.requires.charted from to c.args.ready d c.departures.time c.departures.best c.requires.asked.1.1.0 c.departures.invariant c.if-d-le-LAST_INSTANT.false
 
-pub returns-in-default : goal.returns-in-default
-returns-in-default g c =
+pub returns-in_default : goal.returns-in_default
+returns-in_default g c =
     let b = c.args.book.now in
     let gates = g.B.Book.gates b in
     let ex = g.B.Book.exits b in
@@ -189,8 +189,8 @@ returns-in-default g c =
     let long : 4096 ≤ length c.rounds.cells = omega arith in
     let after : SearchedFrom gates ex law rs from d c.rounds-test.cells c.rounds-test.new = elim c.rounds-test.branch [
       | else-rounds-test w ↦ searched_at gates ex law rs from d c.rounds-test.cells c.rounds.cells c.rounds-test.new c.rounds.new w.cells-is w.last_is (rounds_end gates ex law rs from d c.rounds.k c.rounds.new c.rounds.cells (omega (arith, w.rounds-test.false)) c.rounds.invariant)
-      | then-rounds-test+then-not-told w ↦ searched_at gates ex law rs from d c.rounds-test.cells w.next-row-told.new.cells c.rounds-test.new c.rounds.k w.cells-is w.last_is (rounds_left gates ex law rs from d c.rounds.k c.rounds.new c.rounds.cells w.next-row-told.new.cells w.next-row-told.result some w.rounds-test.true long c.rounds.invariant w.next-row-told.ensures w.if-not-told.true)
+      | then-rounds-test+then-not-told w ↦ searched_at gates ex law rs from d c.rounds-test.cells w.next_row-told.new.cells c.rounds-test.new c.rounds.k w.cells-is w.last_is (rounds_left gates ex law rs from d c.rounds.k c.rounds.new c.rounds.cells w.next_row-told.new.cells w.next_row-told.result some w.rounds-test.true long c.rounds.invariant w.next_row-told.ensures w.if-not-told.true)
     ] in
     let row = row_of c.rounds-test.cells c.rounds-test.new to in
-    let arr = arrival gates ex law rs c.requires.charted from to d c.if-d-le-LAST-INSTANT.true row (row_best no_later (comes_out ex) (all_turned Along rs) from d c.rounds-test.cells c.rounds-test.new after.1 to c.requires.asked.1.0 row refl) in
-    so_none gates ex law rs c.requires.charted from to c.args.ready d c.departures.time c.departures.best c.departures.invariant (subst (Arrival rs ex from to d) (sym c.label-at.ensures ∙ c.in-default.is) arr)
+    let arr = arrival gates ex law rs c.requires.charted from to d c.if-d-le-LAST_INSTANT.true row (row_best no_later (comes_out ex) (all_turned Along rs) from d c.rounds-test.cells c.rounds-test.new after.1 to c.requires.asked.1.0 row refl) in
+    so_none gates ex law rs c.requires.charted from to c.args.ready d c.departures.time c.departures.best c.departures.invariant (subst (Arrival rs ex from to d) (sym c.label_at.ensures ∙ c.in_default.is) arr)

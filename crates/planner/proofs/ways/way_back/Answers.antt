@@ -13,53 +13,53 @@ use Rattle.planner.specs.declared.legs.Answer.{Answer}
 use Rattle.planner.proofs.Answering.{latest_none, latest_reached, latest_some}
 use Rattle.planner.proofs.ways.way_back.Goals as goal
 
-pub returns-in-err-last : goal.returns-in-err-last
-returns-in-err-last g c =
+pub returns-in_err-last : goal.returns-in_err-last
+returns-in_err-last g c =
     let ex = g.B.Book.exits c.args.book.now in
     let n = last_from no_sooner (goes_in ex) (all_turned Against c.args.reaches.now) (lone c.args.to c.args.due) 63 0 in
-    none_not_some None n refl (c.in-err-last.ensures.last ∙ cond-false (ltb (length c.args.cells.now) 4096) None (Some n) (le-ltb (length c.args.cells.now) 4096 c.requires.sizes.1.0))
+    none_not_some None n refl (c.in_err-last.ensures.last ∙ cond-false (ltb (length c.args.cells.now) 4096) None (Some n) (le-ltb (length c.args.cells.now) 4096 c.requires.sizes.1.0))
 
-pub returns-in-err-row : goal.returns-in-err-row
-returns-in-err-row g c =
+pub returns-in_err-row : goal.returns-in_err-row
+returns-in_err-row g c =
     let b = c.args.book.now in
     let gates = g.B.Book.gates b in
     let ex = g.B.Book.exits b in
     let law = g.B.Book.lawful b in
     let rs = c.args.reaches.now in
     let cells = c.search.new.cells in
-    let last = c.in-ok-last.last in
-    let filled = c.in-ok-last.ensures.filled.0 in
-    let walks = c.in-ok-last.ensures.walks in
+    let last = c.in_ok-last.last in
+    let filled = c.in_ok-last.ensures.filled.0 in
+    let walks = c.in_ok-last.ensures.walks in
     let from = c.args.from in
-    let two = latest_none gates ex law rs c.requires.charted cells from c.args.to c.args.due last c.requires.asked.0 c.requires.asked.1.1 filled walks (subst (λ (w : Option ℕ). LeastRow cells last from w None) c.wanted-label-wanted.ensures c.in-err-row.ensures) c.args.legs.now in
-    let none = c.from-residual-in-err-row.ensures in
+    let two = latest_none gates ex law rs c.requires.charted cells from c.args.to c.args.due last c.requires.asked.0 c.requires.asked.1.1 filled walks (subst (λ (w : Option ℕ). LeastRow cells last from w None) c.wanted_label-wanted.ensures c.in_err-row.ensures) c.args.legs.now in
+    let none = c.from_residual-in_err-row.ensures in
     record {
       found = subst (λ (r : Option Answer). LookedFor rs ex from c.args.to c.args.due (Due c.args.due) (λ ans. LatestUnbeaten rs ex from c.args.to c.args.due ans.departure ans.reaches) (against rs ex c.args.due) c.args.legs.now c.args.legs.now r) (sym none) two.0;
       figures = ap departure_figures none ∙ two.1;
     }
 
-pub write-against-requires : goal.write-against-requires
-write-against-requires g c =
+pub write_against-requires : goal.write_against-requires
+write_against-requires g c =
     let b = c.args.book.now in
     let gates = g.B.Book.gates b in
     let ex = g.B.Book.exits b in
     let law = g.B.Book.lawful b in
     let rs = c.args.reaches.now in
     let cells = c.search.new.cells in
-    let last = c.in-ok-last.last in
-    let filled = c.in-ok-last.ensures.filled.0 in
-    let walks = c.in-ok-last.ensures.walks in
-    let h = subst (λ (w : Option ℕ). LeastRow cells last c.args.from w (Some c.in-ok-row.row)) c.wanted-label-wanted.ensures c.in-ok-row.ensures in
-    let z = latest_reached gates ex law rs c.requires.charted cells c.args.from c.args.to c.args.due last c.requires.asked.0 c.requires.asked.1.1 filled walks c.in-ok-row.row h in
+    let last = c.in_ok-last.last in
+    let filled = c.in_ok-last.ensures.filled.0 in
+    let walks = c.in_ok-last.ensures.walks in
+    let h = subst (λ (w : Option ℕ). LeastRow cells last c.args.from w (Some c.in_ok-row.row)) c.wanted_label-wanted.ensures c.in_ok-row.ensures in
+    let z = latest_reached gates ex law rs c.requires.charted cells c.args.from c.args.to c.args.due last c.requires.asked.0 c.requires.asked.1.1 filled walks c.in_ok-row.row h in
     record {
       sizes = (c.requires.sizes.0, (omega arith, omega (arith, h.0, walks.0, c.requires.sizes.1.1)));
       reached = (c.args.to, c.args.due, z.0, z.2);
     }
 
-pub slice-bounds-figures-of-end : goal.slice-bounds-figures-of-end
-slice-bounds-figures-of-end g c =
-    let h = c.in-ok-row.ensures.0 in
-    let low = c.in-ok-last.ensures.walks.0 in
+pub slice_bounds-figures_of-end : goal.slice_bounds-figures_of-end
+slice_bounds-figures_of-end g c =
+    let h = c.in_ok-row.ensures.0 in
+    let low = c.in_ok-last.ensures.walks.0 in
     let room = c.requires.sizes.1.1 in
     omega arith
 
@@ -71,13 +71,13 @@ returns g c =
     let law = g.B.Book.lawful b in
     let rs = c.args.reaches.now in
     let cells = c.search.new.cells in
-    let last = c.in-ok-last.last in
-    let filled = c.in-ok-last.ensures.filled.0 in
-    let walks = c.in-ok-last.ensures.walks in
-    let h = subst (λ (w : Option ℕ). LeastRow cells last c.args.from w (Some c.in-ok-row.row)) c.wanted-label-wanted.ensures c.in-ok-row.ensures in
-    let k = c.in-ok-row.row in
+    let last = c.in_ok-last.last in
+    let filled = c.in_ok-last.ensures.filled.0 in
+    let walks = c.in_ok-last.ensures.walks in
+    let h = subst (λ (w : Option ℕ). LeastRow cells last c.args.from w (Some c.in_ok-row.row)) c.wanted_label-wanted.ensures c.in_ok-row.ensures in
+    let k = c.in_ok-row.row in
     let z = latest_reached gates ex law rs c.requires.charted cells c.args.from c.args.to c.args.due last c.requires.asked.0 c.requires.asked.1.1 filled walks k h in
-    let all : c.in-ok-row.row - 0 ≡ c.in-ok-row.row = omega arith in
-    let two = latest_some gates ex law rs c.requires.charted cells c.args.from c.args.to c.args.due last c.requires.asked.0 c.requires.asked.1.1 filled walks k z.0 c.args.legs.now c.write-against.new.legs
-    (c.write-against.ensures c.args.to c.args.due z.0 z.2) c.figures-of.result (c.figures-of.ensures ∙ ap (λ (m : ℕ). figures c.args.due (take m c.write-against.new.legs)) all) h.0 h z.1 z.2 in
+    let all : c.in_ok-row.row - 0 ≡ c.in_ok-row.row = omega arith in
+    let two = latest_some gates ex law rs c.requires.charted cells c.args.from c.args.to c.args.due last c.requires.asked.0 c.requires.asked.1.1 filled walks k z.0 c.args.legs.now c.write_against.new.legs
+    (c.write_against.ensures c.args.to c.args.due z.0 z.2) c.figures_of.result (c.figures_of.ensures ∙ ap (λ (m : ℕ). figures c.args.due (take m c.write_against.new.legs)) all) h.0 h z.1 z.2 in
     record { found = two.0; figures = two.1 }

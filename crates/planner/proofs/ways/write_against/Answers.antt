@@ -3,8 +3,8 @@ use Rattle.std.proofs.lemmas.List.{drop-set-lt}
 use Rattle.planner.proofs.Writing.{read_against_more, read_against_all}
 use Rattle.planner.proofs.ways.write_against.Goals as goal
 
-pub leg-against-to-requires : goal.leg-against-to-requires
-leg-against-to-requires g c =
+pub leg_against-to-requires : goal.leg_against-to-requires
+leg_against-to-requires g c =
     let r = c.requires.reached in
     let inv = c.loop-i.invariant.0 r.0 r.1 r.2 r.3 in
     record {
@@ -23,8 +23,8 @@ loop-i-preserved g c =
     let room : c.args.k ≤ length c.loop-i.legs = omega arith in (
       (λ b t z r.
           let inv = c.loop-i.invariant.0 b t z r in
-          read_against_more rs ex cells b t c.args.from z k i c.loop-i.place legs c.loop-i-test.true room inv c.leg-against-to.result.0 c.leg-against-to.result.1 (c.leg-against-to.ensures b t inv.0 inv.1)),
-      drop-set-lt k legs i c.leg-against-to.result.0 c.loop-i-test.true ∙ c.loop-i.invariant.1,
+          read_against_more rs ex cells b t c.args.from z k i c.loop-i.place legs c.loop-i-test.true room inv c.leg_against-to.result.0 c.leg_against-to.result.1 (c.leg_against-to.ensures b t inv.0 inv.1)),
+      drop-set-lt k legs i c.leg_against-to.result.0 c.loop-i-test.true ∙ c.loop-i.invariant.1,
     )
 
 pub returns : goal.returns

@@ -7,8 +7,8 @@ use Rattle.planner.specs.Ways.{Reached}
 use Rattle.planner.proofs.Writing.{read_along_more, read_along_all}
 use Rattle.planner.proofs.ways.write_along.Goals as goal
 
-pub leg-along-from-requires : goal.leg-along-from-requires
-leg-along-from-requires g c =
+pub leg_along-from-requires : goal.leg_along-from-requires
+leg_along-from-requires g c =
     let r = c.requires.reached in
     let inv = c.loop-j.invariant.0 r.0 r.1 r.2 r.3 in
     let ex = g.B.Book.exits c.args.book.now in
@@ -33,9 +33,9 @@ loop-j-preserved g c =
     let under : c.loop-j.j - 1 < c.args.k = omega arith in (
       (λ a t z r.
           let inv = c.loop-j.invariant.0 a t z r in
-          read_along_more rs ex cells a t c.args.to z k j c.loop-j.place legs some within room inv c.leg-along-from.result.0 c.leg-along-from.result.1
-          (c.leg-along-from.ensures a t inv.0 (subst (λ (m : ℕ). Reached no_later (comes_out ex) (all_turned Along rs) cells a t m c.loop-j.place inv.0) row inv.1))),
-      drop-set-lt k legs (j - 1) c.leg-along-from.result.0 under ∙ c.loop-j.invariant.1,
+          read_along_more rs ex cells a t c.args.to z k j c.loop-j.place legs some within room inv c.leg_along-from.result.0 c.leg_along-from.result.1
+          (c.leg_along-from.ensures a t inv.0 (subst (λ (m : ℕ). Reached no_later (comes_out ex) (all_turned Along rs) cells a t m c.loop-j.place inv.0) row inv.1))),
+      drop-set-lt k legs (j - 1) c.leg_along-from.result.0 under ∙ c.loop-j.invariant.1,
     )
 
 pub returns : goal.returns

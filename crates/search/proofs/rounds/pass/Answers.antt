@@ -8,7 +8,7 @@ use Rattle.search.specs.declared.reaches.Reach.{Reach}
 use Rattle.search.proofs.CellSteps.{relaxed_outside, rounded_more, stirred_more}
 use Rattle.search.proofs.Skipped.{quiet, no_worse_on, rounded_skip, stirred_skip, turned_has}
 use Rattle.search.proofs.rounds.pass.Goals as goal
-use Rattle.search.proofs.rounds.pass.Goals.{then-is-new, else-is-new}
+use Rattle.search.proofs.rounds.pass.Goals.{then-is_new, else-is_new}
 
 pub loop-reach-init : goal.loop-reach-init
 loop-reach-init g c = ((λ h. (refl, refl, λ v l z o. subst (λ (p : Option g.row.R-Label.Denot). Good (g.R.Reckoning.good c.args.by.now) p z) (sym (h.0 v l)) o)), (λ j h. refl), λ j h. refl)
@@ -33,23 +33,23 @@ loop-reach-preserved g c =
     let some : 0 < c.args.k = omega arith in
     let long : 64 * c.args.k + 64 ≤ length c.loop-reach.cells = omega arith in
     let rest = all_turned d (drop (i + 1) es) in
-    elim c.if-is-new.branch [
-      | then-is-new w ↦
+    elim c.if-is_new.branch [
+      | then-is_new w ↦
           let n = w.cells-is ∙ w.relax-told.ensures.cells in (
             (λ h. let inv = c.loop-reach.invariant.0 h in (
-              rounded_more a b p q d cells c.if-is-new.cells es i _ t c.loop-reach-test.true c.turn-e.ensures n ∙ inv.0,
-              ap (λ (x : Bool). stirred a b p q c.if-is-new.cells x rest) w.told-is ∙ stirred_more a b p q d cells c.if-is-new.cells es i _ t c.loop-reach-test.true c.turn-e.ensures n c.loop-reach.told w.relax-told.result w.relax-told.ensures.told ∙ inv.1,
+              rounded_more a b p q d cells c.if-is_new.cells es i _ t c.loop-reach-test.true c.turn-e.ensures n ∙ inv.0,
+              ap (λ (x : Bool). stirred a b p q c.if-is_new.cells x rest) w.told-is ∙ stirred_more a b p q d cells c.if-is_new.cells es i _ t c.loop-reach-test.true c.turn-e.ensures n c.loop-reach.told w.relax-told.result w.relax-told.ensures.told ∙ inv.1,
               λ v l z o. subst (λ (x : List (Option L)). Good a (get_or x (q + v) None) z) (sym n) (no_worse_on laws k some (all_turned d es) old cells h.1 inv.2 under t long v l z o),
             )),
             (λ j h. ap (λ (l : List (Option L)). get_or l j None) n ∙ relaxed_outside a b p q cells t j (inr h) ∙ c.loop-reach.invariant.1 j h),
             λ j h. ap (λ (l : List (Option L)). get_or l j None) n ∙ relaxed_outside a b p q cells t j (inl h) ∙ under j h,
           )
-      | else-is-new w ↦
+      | else-is_new w ↦
           let has : Has (all_turned d es) t = subst (Has (all_turned d es)) (sym c.turn-e.ensures) (turned_has d es i _ c.loop-reach-test.true) in (
             (λ h. let inv = c.loop-reach.invariant.0 h in
-                let idle = quiet laws k some (all_turned d es) old cells h.1 inv.2 under t has (sym c.is-new.ensures ∙ w.if-is-new.false) in (
+                let idle = quiet laws k some (all_turned d es) old cells h.1 inv.2 under t has (sym c.is_new.ensures ∙ w.if-is_new.false) in (
                   ap (λ (l : List (Option L)). rounded a b p q l rest) w.cells-is ∙ rounded_skip a b p q d cells es i _ t c.loop-reach-test.true c.turn-e.ensures idle ∙ inv.0,
-                  ap (λ (l : List (Option L)). stirred a b p q l c.if-is-new.told rest) w.cells-is ∙ ap (λ (x : Bool). stirred a b p q cells x rest) w.told-is ∙ stirred_skip a b p q d cells es i _ t c.loop-reach-test.true c.turn-e.ensures idle c.loop-reach.told ∙ inv.1,
+                  ap (λ (l : List (Option L)). stirred a b p q l c.if-is_new.told rest) w.cells-is ∙ ap (λ (x : Bool). stirred a b p q cells x rest) w.told-is ∙ stirred_skip a b p q d cells es i _ t c.loop-reach-test.true c.turn-e.ensures idle c.loop-reach.told ∙ inv.1,
                   λ v l z o. subst (λ (x : List (Option L)). Good a (get_or x (q + v) None) z) (sym w.cells-is) (inv.2 v l z o),
                 )),
             (λ j h. ap (λ (l : List (Option L)). get_or l j None) w.cells-is ∙ c.loop-reach.invariant.1 j h),

@@ -37,7 +37,7 @@ returns-in-Some g c =
     let reads : readable c.args.cells.now c.args.row c.args.place ≡ true = and_from (ltb 0 k && ltb k 64) (ltb v 64 && leb 4096 (length cells)) (and_from (ltb 0 k) (ltb k 64) (lt-ltb 0 k some) (lt-ltb k 64 c.if-row-ge64.false)) (and_from (ltb v 64) (leb 4096 (length cells)) (lt-ltb v 64 c.if-place-ge-PLACES.false) (le-leb 4096 (length cells) c.if-cells-lt-CELLS.false)) in
     let cell : row_of cells k v ≡ Some c.in-Some.z = ap (λ (u : ℕ). get_or cells (64 * k + u) None) (sym c.from.ensures) ∙ sym (get_or_read cells (64 * k + c.from.result) c.index-cells-row.result low c.index-cells-row.is None) ∙ c.in-Some.is in
     record {
-      step = c.first-bringer.ensures ∙ sym (cond-true (readable cells k v) (came_by a b es cells (k - 1) v (row_of cells k v)) None reads ∙ ap (came_by a b es cells (k - 1) v) cell);
+      step = c.first_bringer.ensures ∙ sym (cond-true (readable cells k v) (came_by a b es cells (k - 1) v (row_of cells k v)) None reads ∙ ap (came_by a b es cells (k - 1) v) cell);
       walks = ways_back (g.R.Reckoning.laws r) (g.R.Reckoning.antisymmetric r) es cells;
     }
 

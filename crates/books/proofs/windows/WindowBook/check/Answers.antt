@@ -15,5 +15,5 @@ pub returns : goal.returns
 returns c =
     let ps = c.args.self.now.passages.now in
     let ws = c.args.self.now.windows.now in
-    let found = c.first-fault.ensures ∙ ap (λ (n : ℕ). head (in_list (codes "window") (faults_from (window_faults n) 0 ws))) c.gate-count-gates.ensures in
-    head_of_second (gate_list_faults (codes "timed") (passage_faults (listed ps)) ps) (in_list (codes "window") (faults_from (window_faults (listed ps)) 0 ws)) (told c.first-fault.result) c.in-default.ensures found
+    let found = c.first_fault.ensures ∙ ap (λ (n : ℕ). head (in_list (codes "window") (faults_from (window_faults n) 0 ws))) c.gate_count-gates.ensures in
+    head_of_second (gate_list_faults (codes "timed") (passage_faults (listed ps)) ps) (in_list (codes "window") (faults_from (window_faults (listed ps)) 0 ws)) (told c.first_fault.result) c.in_default.ensures found

@@ -5,25 +5,25 @@ use Rattle.books.specs.Windows.{timed_exits}
 use Rattle.books.proofs.WindowScans.{gate_among, least_again, timed_first_lacks, timed_first_none, timed_first_some}
 use Rattle.books.proofs.windows.WindowBookBook.first.Goals as goal
 
-pub returns-in-err-passage : goal.returns-in-err-passage
-returns-in-err-passage c = c.from-residual.ensures ∙ timed_first_lacks c.args.self.now.passages.now c.args.self.now.windows.now c.args.gate c.args.t (sym c.in-err-passage.ensures)
+pub returns-in_err-passage : goal.returns-in_err-passage
+returns-in_err-passage c = c.from_residual.ensures ∙ timed_first_lacks c.args.self.now.passages.now c.args.self.now.windows.now c.args.gate c.args.t (sym c.in_err-passage.ensures)
 
 pub loop-window-preserved : goal.loop-window-preserved
 loop-window-preserved c =
     let ps = c.args.self.now.passages.now in
     let ws = c.args.self.now.windows.now in
-    let among = gate_among ps ws c.args.gate c.args.t c.in-ok-passage.passage (sym c.in-ok-passage.ensures) in
-    least_again (listed ps) c.args.gate c.in-ok-passage.passage c.args.t among ws c.loop-window.window-index _ c.loop-window-test.true c.loop-window.best c.first-entry.result c.earlier-best.result c.loop-window.invariant c.first-entry.ensures c.earlier-best.ensures
+    let among = gate_among ps ws c.args.gate c.args.t c.in_ok-passage.passage (sym c.in_ok-passage.ensures) in
+    least_again (listed ps) c.args.gate c.in_ok-passage.passage c.args.t among ws c.loop-window.window-index _ c.loop-window-test.true c.loop-window.best c.first_entry.result c.earlier-best.result c.loop-window.invariant c.first_entry.ensures c.earlier-best.ensures
 
-pub returns-in-err-s : goal.returns-in-err-s
-returns-in-err-s c = c.from-residual-in-err-s.ensures ∙ timed_first_none c.args.self.now.passages.now c.args.self.now.windows.now c.args.gate c.args.t c.in-ok-passage.passage (sym c.in-ok-passage.ensures) c.loop-window.window-index c.loop-window-test.false c.loop-window.best c.in-err-s.was c.loop-window.invariant
+pub returns-in_err-s : goal.returns-in_err-s
+returns-in_err-s c = c.from_residual-in_err-s.ensures ∙ timed_first_none c.args.self.now.passages.now c.args.self.now.windows.now c.args.gate c.args.t c.in_ok-passage.passage (sym c.in_ok-passage.ensures) c.loop-window.window-index c.loop-window-test.false c.loop-window.best c.in_err-s.was c.loop-window.invariant
 
 -- the answer, and that its exit is an instant
-found : (c : goal.In-ok-s) → (c.in-ok-s.s + c.in-ok-passage.passage ≤ 20160) × (Some (c.in-ok-s.s, c.in-ok-s.s + c.in-ok-passage.passage) ≡ first_open (timed_exits c.args.self.now.passages.now c.args.self.now.windows.now c.args.gate) c.args.t)
-found c = timed_first_some c.args.self.now.passages.now c.args.self.now.windows.now c.args.gate c.args.t c.in-ok-passage.passage (sym c.in-ok-passage.ensures) c.loop-window.window-index c.loop-window-test.false c.loop-window.best c.in-ok-s.s c.in-ok-s.was c.loop-window.invariant
+found : (c : goal.In_ok-s) → (c.in_ok-s.s + c.in_ok-passage.passage ≤ 20160) × (Some (c.in_ok-s.s, c.in_ok-s.s + c.in_ok-passage.passage) ≡ first_open (timed_exits c.args.self.now.passages.now c.args.self.now.windows.now c.args.gate) c.args.t)
+found c = timed_first_some c.args.self.now.passages.now c.args.self.now.windows.now c.args.gate c.args.t c.in_ok-passage.passage (sym c.in_ok-passage.ensures) c.loop-window.window-index c.loop-window-test.false c.loop-window.best c.in_ok-s.s c.in_ok-s.was c.loop-window.invariant
 
-pub overflow-add-result : goal.overflow-add-result
-overflow-add-result c = omega (arith, (found c).0)
+pub overflow_add-result : goal.overflow_add-result
+overflow_add-result c = omega (arith, (found c).0)
 
 pub returns : goal.returns
 returns c = (found c).1

@@ -7,7 +7,7 @@ pub loop-case-preserved : goal.loop-case-preserved
 loop-case-preserved c =
     let cases = c.args.cases.now in
     let i = c.loop-case.case-index in
-    ap (λ (b : Lists). gathered b (drop (i + 1) cases)) c.in-ok-add.ensures
+    ap (λ (b : Lists). gathered b (drop (i + 1) cases)) c.in_ok-add.ensures
     ∙ sym (at_drop_more (gathered (lists c.loop-case.records)) cases i _ c.loop-case-test.true)
     ∙ c.loop-case.invariant
 

@@ -5,11 +5,11 @@ use Rattle.layers.specs.declared.notices.Notice.{Notice}
 use Rattle.layers.proofs.Places.{stands, lifted, not_lifted}
 use Rattle.layers.proofs.notices.Noticed.lift.Goals as goal
 
-pub returns-in-default : goal.returns-in-default
-returns-in-default g c =
+pub returns-in_default : goal.returns-in_default
+returns-in_default g c =
     let b = c.args.self.now.book in
     let ns = vec_items c.args.self.now.notices in
-    let two = not_lifted ns c.args.notice (c.in-default.ensures ∙ ap (λ (l : List Notice). place_of 0 l c.args.notice) c.deref.ensures.value) in
+    let two = not_lifted ns c.args.notice (c.in_default.ensures ∙ ap (λ (l : List Notice). place_of 0 l c.args.notice) c.deref.ensures.value) in
     record { reply = two.0; notices = two.1; book = refl; meaning = λ d. noticed_means ns (g.B.Book.gates b) (g.B.Book.exits b) }
 
 pub remove-requires : goal.remove-requires
