@@ -4,4 +4,4 @@ use Rattle.layers.proofs.Steps.{Out}
 use Rattle.layers.proofs.notices.open.NoticedBook.last.Given as goal
 
 abbrev pub invariant-loop-step : goal.invariant-loop-step
-invariant-loop-step g l = Out (noticed_exits (vec_items l.self.notices) (g.B.Book.exits l.self.book) l.gate) (vec_items l.self.notices) l.t l.by l.-step
+invariant-loop-step g l = Out (noticed_exits (vec_items l.self.notices) (g.B.Book.exits l.self.book) l.gate) (vec_items l.self.notices) l.t l.by l._step
