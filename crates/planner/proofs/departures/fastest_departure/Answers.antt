@@ -33,7 +33,7 @@ rounds-preserved g c =
     let d = c.departures.d in
     let some : 0 < c.rounds.k = omega arith in
     let long : 4096 ≤ length c.rounds.cells = omega arith in
-    rounds_more gates ex law rs from d c.rounds.k c.rounds.new c.rounds.cells c.next_row-told.new.cells c.next_row-told.result some c.rounds-test.true long c.rounds.invariant c.next_row-told.ensures c.if-not-told.false
+    rounds_more gates ex law rs from d c.rounds.k c.rounds.last c.rounds.cells c.next_row-told.new.cells c.next_row-told.result some c.rounds-test.true long c.rounds.invariant c.next_row-told.ensures c.if-not-told.false
 
 pub label_at-requires : goal.label_at-requires
 label_at-requires g c =
@@ -47,9 +47,9 @@ label_at-requires g c =
     let d = c.departures.d in
     let some : 0 < c.rounds.k = omega arith in
     let long : 4096 ≤ length c.rounds.cells = omega arith in
-    let after : SearchedFrom gates ex law rs from d c.rounds-test.cells c.rounds-test.new = elim c.rounds-test.branch [
-      | else-rounds-test w ↦ searched_at gates ex law rs from d c.rounds-test.cells c.rounds.cells c.rounds-test.new c.rounds.new w.cells-is w.last_is (rounds_end gates ex law rs from d c.rounds.k c.rounds.new c.rounds.cells (omega (arith, w.rounds-test.false)) c.rounds.invariant)
-      | then-rounds-test+then-not-told w ↦ searched_at gates ex law rs from d c.rounds-test.cells w.next_row-told.new.cells c.rounds-test.new c.rounds.k w.cells-is w.last_is (rounds_left gates ex law rs from d c.rounds.k c.rounds.new c.rounds.cells w.next_row-told.new.cells w.next_row-told.result some w.rounds-test.true long c.rounds.invariant w.next_row-told.ensures w.if-not-told.true)
+    let after : SearchedFrom gates ex law rs from d c.rounds-test.cells c.rounds-test.last = elim c.rounds-test.branch [
+      | else-rounds-test w ↦ searched_at gates ex law rs from d c.rounds-test.cells c.rounds.cells c.rounds-test.last c.rounds.last w.cells-is w.last-is (rounds_end gates ex law rs from d c.rounds.k c.rounds.last c.rounds.cells (omega (arith, w.rounds-test.false)) c.rounds.invariant)
+      | then-rounds-test+then-not-told w ↦ searched_at gates ex law rs from d c.rounds-test.cells w.next_row-told.new.cells c.rounds-test.last c.rounds.k w.cells-is w.last-is (rounds_left gates ex law rs from d c.rounds.k c.rounds.last c.rounds.cells w.next_row-told.new.cells w.next_row-told.result some w.rounds-test.true long c.rounds.invariant w.next_row-told.ensures w.if-not-told.true)
     ] in
     (omega (arith, after.0), (c.requires.asked.1.0, omega arith))
 
@@ -65,12 +65,12 @@ overflow_sub-arrival g c =
     let d = c.departures.d in
     let some : 0 < c.rounds.k = omega arith in
     let long : 4096 ≤ length c.rounds.cells = omega arith in
-    let after : SearchedFrom gates ex law rs from d c.rounds-test.cells c.rounds-test.new = elim c.rounds-test.branch [
-      | else-rounds-test w ↦ searched_at gates ex law rs from d c.rounds-test.cells c.rounds.cells c.rounds-test.new c.rounds.new w.cells-is w.last_is (rounds_end gates ex law rs from d c.rounds.k c.rounds.new c.rounds.cells (omega (arith, w.rounds-test.false)) c.rounds.invariant)
-      | then-rounds-test+then-not-told w ↦ searched_at gates ex law rs from d c.rounds-test.cells w.next_row-told.new.cells c.rounds-test.new c.rounds.k w.cells-is w.last_is (rounds_left gates ex law rs from d c.rounds.k c.rounds.new c.rounds.cells w.next_row-told.new.cells w.next_row-told.result some w.rounds-test.true long c.rounds.invariant w.next_row-told.ensures w.if-not-told.true)
+    let after : SearchedFrom gates ex law rs from d c.rounds-test.cells c.rounds-test.last = elim c.rounds-test.branch [
+      | else-rounds-test w ↦ searched_at gates ex law rs from d c.rounds-test.cells c.rounds.cells c.rounds-test.last c.rounds.last w.cells-is w.last-is (rounds_end gates ex law rs from d c.rounds.k c.rounds.last c.rounds.cells (omega (arith, w.rounds-test.false)) c.rounds.invariant)
+      | then-rounds-test+then-not-told w ↦ searched_at gates ex law rs from d c.rounds-test.cells w.next_row-told.new.cells c.rounds-test.last c.rounds.k w.cells-is w.last-is (rounds_left gates ex law rs from d c.rounds.k c.rounds.last c.rounds.cells w.next_row-told.new.cells w.next_row-told.result some w.rounds-test.true long c.rounds.invariant w.next_row-told.ensures w.if-not-told.true)
     ] in
-    let row = row_of c.rounds-test.cells c.rounds-test.new to in
-    let arr = arrival gates ex law rs c.requires.charted from to d c.if-d-le-LAST_INSTANT.true row (row_best no_later (comes_out ex) (all_turned Along rs) from d c.rounds-test.cells c.rounds-test.new after.1 to c.requires.asked.1.0 row refl) in
+    let row = row_of c.rounds-test.cells c.rounds-test.last to in
+    let arr = arrival gates ex law rs c.requires.charted from to d c.if-d-le-LAST_INSTANT.true row (row_best no_later (comes_out ex) (all_turned Along rs) from d c.rounds-test.cells c.rounds-test.last after.1 to c.requires.asked.1.0 row refl) in
     let first = subst (Arrival rs ex from to d) (sym c.label_at.ensures ∙ c.in-Some.is) arr in
     first.later
 
@@ -86,12 +86,12 @@ leaving_for-leaves-requires g c =
     let d = c.departures.d in
     let some : 0 < c.rounds.k = omega arith in
     let long : 4096 ≤ length c.rounds.cells = omega arith in
-    let after : SearchedFrom gates ex law rs from d c.rounds-test.cells c.rounds-test.new = elim c.rounds-test.branch [
-      | else-rounds-test w ↦ searched_at gates ex law rs from d c.rounds-test.cells c.rounds.cells c.rounds-test.new c.rounds.new w.cells-is w.last_is (rounds_end gates ex law rs from d c.rounds.k c.rounds.new c.rounds.cells (omega (arith, w.rounds-test.false)) c.rounds.invariant)
-      | then-rounds-test+then-not-told w ↦ searched_at gates ex law rs from d c.rounds-test.cells w.next_row-told.new.cells c.rounds-test.new c.rounds.k w.cells-is w.last_is (rounds_left gates ex law rs from d c.rounds.k c.rounds.new c.rounds.cells w.next_row-told.new.cells w.next_row-told.result some w.rounds-test.true long c.rounds.invariant w.next_row-told.ensures w.if-not-told.true)
+    let after : SearchedFrom gates ex law rs from d c.rounds-test.cells c.rounds-test.last = elim c.rounds-test.branch [
+      | else-rounds-test w ↦ searched_at gates ex law rs from d c.rounds-test.cells c.rounds.cells c.rounds-test.last c.rounds.last w.cells-is w.last-is (rounds_end gates ex law rs from d c.rounds.k c.rounds.last c.rounds.cells (omega (arith, w.rounds-test.false)) c.rounds.invariant)
+      | then-rounds-test+then-not-told w ↦ searched_at gates ex law rs from d c.rounds-test.cells w.next_row-told.new.cells c.rounds-test.last c.rounds.k w.cells-is w.last-is (rounds_left gates ex law rs from d c.rounds.k c.rounds.last c.rounds.cells w.next_row-told.new.cells w.next_row-told.result some w.rounds-test.true long c.rounds.invariant w.next_row-told.ensures w.if-not-told.true)
     ] in
-    let row = row_of c.rounds-test.cells c.rounds-test.new to in
-    let arr = arrival gates ex law rs c.requires.charted from to d c.if-d-le-LAST_INSTANT.true row (row_best no_later (comes_out ex) (all_turned Along rs) from d c.rounds-test.cells c.rounds-test.new after.1 to c.requires.asked.1.0 row refl) in
+    let row = row_of c.rounds-test.cells c.rounds-test.last to in
+    let arr = arrival gates ex law rs c.requires.charted from to d c.if-d-le-LAST_INSTANT.true row (row_best no_later (comes_out ex) (all_turned Along rs) from d c.rounds-test.cells c.rounds-test.last after.1 to c.requires.asked.1.0 row refl) in
     let first = subst (Arrival rs ex from to d) (sym c.label_at.ensures ∙ c.in-Some.is) arr in
     record { asked = (c.requires.asked.0, (c.requires.asked.1.0, (omega arith, c.requires.charted))); there = first }
 
@@ -110,12 +110,12 @@ overflow_add-d g c =
     let d = c.departures.d in
     let some : 0 < c.rounds.k = omega arith in
     let long : 4096 ≤ length c.rounds.cells = omega arith in
-    let after : SearchedFrom gates ex law rs from d c.rounds-test.cells c.rounds-test.new = elim c.rounds-test.branch [
-      | else-rounds-test w ↦ searched_at gates ex law rs from d c.rounds-test.cells c.rounds.cells c.rounds-test.new c.rounds.new w.cells-is w.last_is (rounds_end gates ex law rs from d c.rounds.k c.rounds.new c.rounds.cells (omega (arith, w.rounds-test.false)) c.rounds.invariant)
-      | then-rounds-test+then-not-told w ↦ searched_at gates ex law rs from d c.rounds-test.cells w.next_row-told.new.cells c.rounds-test.new c.rounds.k w.cells-is w.last_is (rounds_left gates ex law rs from d c.rounds.k c.rounds.new c.rounds.cells w.next_row-told.new.cells w.next_row-told.result some w.rounds-test.true long c.rounds.invariant w.next_row-told.ensures w.if-not-told.true)
+    let after : SearchedFrom gates ex law rs from d c.rounds-test.cells c.rounds-test.last = elim c.rounds-test.branch [
+      | else-rounds-test w ↦ searched_at gates ex law rs from d c.rounds-test.cells c.rounds.cells c.rounds-test.last c.rounds.last w.cells-is w.last-is (rounds_end gates ex law rs from d c.rounds.k c.rounds.last c.rounds.cells (omega (arith, w.rounds-test.false)) c.rounds.invariant)
+      | then-rounds-test+then-not-told w ↦ searched_at gates ex law rs from d c.rounds-test.cells w.next_row-told.new.cells c.rounds-test.last c.rounds.k w.cells-is w.last-is (rounds_left gates ex law rs from d c.rounds.k c.rounds.last c.rounds.cells w.next_row-told.new.cells w.next_row-told.result some w.rounds-test.true long c.rounds.invariant w.next_row-told.ensures w.if-not-told.true)
     ] in
-    let row = row_of c.rounds-test.cells c.rounds-test.new to in
-    let arr = arrival gates ex law rs c.requires.charted from to d c.if-d-le-LAST_INSTANT.true row (row_best no_later (comes_out ex) (all_turned Along rs) from d c.rounds-test.cells c.rounds-test.new after.1 to c.requires.asked.1.0 row refl) in
+    let row = row_of c.rounds-test.cells c.rounds-test.last to in
+    let arr = arrival gates ex law rs c.requires.charted from to d c.if-d-le-LAST_INSTANT.true row (row_best no_later (comes_out ex) (all_turned Along rs) from d c.rounds-test.cells c.rounds-test.last after.1 to c.requires.asked.1.0 row refl) in
     let first = subst (Arrival rs ex from to d) (sym c.label_at.ensures ∙ c.in-Some.is) arr in
     let top : c.in-Some.arrival ≤ 20160 = first.within in
     search rules
@@ -140,12 +140,12 @@ departures-preserved g c =
     let d = c.departures.d in
     let some : 0 < c.rounds.k = omega arith in
     let long : 4096 ≤ length c.rounds.cells = omega arith in
-    let after : SearchedFrom gates ex law rs from d c.rounds-test.cells c.rounds-test.new = elim c.rounds-test.branch [
-      | else-rounds-test w ↦ searched_at gates ex law rs from d c.rounds-test.cells c.rounds.cells c.rounds-test.new c.rounds.new w.cells-is w.last_is (rounds_end gates ex law rs from d c.rounds.k c.rounds.new c.rounds.cells (omega (arith, w.rounds-test.false)) c.rounds.invariant)
-      | then-rounds-test+then-not-told w ↦ searched_at gates ex law rs from d c.rounds-test.cells w.next_row-told.new.cells c.rounds-test.new c.rounds.k w.cells-is w.last_is (rounds_left gates ex law rs from d c.rounds.k c.rounds.new c.rounds.cells w.next_row-told.new.cells w.next_row-told.result some w.rounds-test.true long c.rounds.invariant w.next_row-told.ensures w.if-not-told.true)
+    let after : SearchedFrom gates ex law rs from d c.rounds-test.cells c.rounds-test.last = elim c.rounds-test.branch [
+      | else-rounds-test w ↦ searched_at gates ex law rs from d c.rounds-test.cells c.rounds.cells c.rounds-test.last c.rounds.last w.cells-is w.last-is (rounds_end gates ex law rs from d c.rounds.k c.rounds.last c.rounds.cells (omega (arith, w.rounds-test.false)) c.rounds.invariant)
+      | then-rounds-test+then-not-told w ↦ searched_at gates ex law rs from d c.rounds-test.cells w.next_row-told.new.cells c.rounds-test.last c.rounds.k w.cells-is w.last-is (rounds_left gates ex law rs from d c.rounds.k c.rounds.last c.rounds.cells w.next_row-told.new.cells w.next_row-told.result some w.rounds-test.true long c.rounds.invariant w.next_row-told.ensures w.if-not-told.true)
     ] in
-    let row = row_of c.rounds-test.cells c.rounds-test.new to in
-    let arr = arrival gates ex law rs c.requires.charted from to d c.if-d-le-LAST_INSTANT.true row (row_best no_later (comes_out ex) (all_turned Along rs) from d c.rounds-test.cells c.rounds-test.new after.1 to c.requires.asked.1.0 row refl) in
+    let row = row_of c.rounds-test.cells c.rounds-test.last to in
+    let arr = arrival gates ex law rs c.requires.charted from to d c.if-d-le-LAST_INSTANT.true row (row_best no_later (comes_out ex) (all_turned Along rs) from d c.rounds-test.cells c.rounds-test.last after.1 to c.requires.asked.1.0 row refl) in
     let first = subst (Arrival rs ex from to d) (sym c.label_at.ensures ∙ c.in-Some.is) arr in
     let e = c.in-Some.arrival in
     let time = c.if-arrival-d.time in
@@ -187,10 +187,10 @@ returns-in_default g c =
     let d = c.departures.d in
     let some : 0 < c.rounds.k = omega arith in
     let long : 4096 ≤ length c.rounds.cells = omega arith in
-    let after : SearchedFrom gates ex law rs from d c.rounds-test.cells c.rounds-test.new = elim c.rounds-test.branch [
-      | else-rounds-test w ↦ searched_at gates ex law rs from d c.rounds-test.cells c.rounds.cells c.rounds-test.new c.rounds.new w.cells-is w.last_is (rounds_end gates ex law rs from d c.rounds.k c.rounds.new c.rounds.cells (omega (arith, w.rounds-test.false)) c.rounds.invariant)
-      | then-rounds-test+then-not-told w ↦ searched_at gates ex law rs from d c.rounds-test.cells w.next_row-told.new.cells c.rounds-test.new c.rounds.k w.cells-is w.last_is (rounds_left gates ex law rs from d c.rounds.k c.rounds.new c.rounds.cells w.next_row-told.new.cells w.next_row-told.result some w.rounds-test.true long c.rounds.invariant w.next_row-told.ensures w.if-not-told.true)
+    let after : SearchedFrom gates ex law rs from d c.rounds-test.cells c.rounds-test.last = elim c.rounds-test.branch [
+      | else-rounds-test w ↦ searched_at gates ex law rs from d c.rounds-test.cells c.rounds.cells c.rounds-test.last c.rounds.last w.cells-is w.last-is (rounds_end gates ex law rs from d c.rounds.k c.rounds.last c.rounds.cells (omega (arith, w.rounds-test.false)) c.rounds.invariant)
+      | then-rounds-test+then-not-told w ↦ searched_at gates ex law rs from d c.rounds-test.cells w.next_row-told.new.cells c.rounds-test.last c.rounds.k w.cells-is w.last-is (rounds_left gates ex law rs from d c.rounds.k c.rounds.last c.rounds.cells w.next_row-told.new.cells w.next_row-told.result some w.rounds-test.true long c.rounds.invariant w.next_row-told.ensures w.if-not-told.true)
     ] in
-    let row = row_of c.rounds-test.cells c.rounds-test.new to in
-    let arr = arrival gates ex law rs c.requires.charted from to d c.if-d-le-LAST_INSTANT.true row (row_best no_later (comes_out ex) (all_turned Along rs) from d c.rounds-test.cells c.rounds-test.new after.1 to c.requires.asked.1.0 row refl) in
+    let row = row_of c.rounds-test.cells c.rounds-test.last to in
+    let arr = arrival gates ex law rs c.requires.charted from to d c.if-d-le-LAST_INSTANT.true row (row_best no_later (comes_out ex) (all_turned Along rs) from d c.rounds-test.cells c.rounds-test.last after.1 to c.requires.asked.1.0 row refl) in
     so_none gates ex law rs c.requires.charted from to c.args.ready d c.departures.time c.departures.best c.departures.invariant (subst (Arrival rs ex from to d) (sym c.label_at.ensures ∙ c.in_default.is) arr)

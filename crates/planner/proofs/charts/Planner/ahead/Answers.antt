@@ -3,8 +3,8 @@ use Rattle.planner.specs.Charts.{Charted}
 use Rattle.planner.proofs.Fitting.{fits}
 use Rattle.planner.proofs.charts.Planner.ahead.Goals as goal
 
-pub way-ahead-requires : goal.way-ahead-requires
-way-ahead-requires g c =
+pub way_ahead-requires : goal.way_ahead-requires
+way_ahead-requires g c =
     let p = c.args.self.now in
     let f = fits (length c.args.cells.now) (length c.args.legs.now) c.args.from c.args.to c.args.ready c.in_default.ensures in
     record {

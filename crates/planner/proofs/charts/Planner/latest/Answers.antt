@@ -3,8 +3,8 @@ use Rattle.planner.specs.Charts.{Charted}
 use Rattle.planner.proofs.Fitting.{fits}
 use Rattle.planner.proofs.charts.Planner.latest.Goals as goal
 
-pub way-back-requires : goal.way-back-requires
-way-back-requires g c =
+pub way_back-requires : goal.way_back-requires
+way_back-requires g c =
     let p = c.args.self.now in
     let f = fits (length c.args.cells.now) (length c.args.legs.now) c.args.from c.args.to c.args.due c.in_default.ensures in
     record {
