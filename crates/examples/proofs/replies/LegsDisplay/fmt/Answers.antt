@@ -15,4 +15,4 @@ loop-leg-preserved g c = λ plain.
     let i = c.loop-leg.leg-index in
     let d : Leg = record { reach = 0; entry = 0; exit = 0 } in
     has_written_of_eq g.W.Write.write_str_gives c.args.f.now _ _ c.write.new.self (flat_map_more leg_text [] (take i legs) (get_or legs i d) ∙ ap legs_text (sym (take_more legs i d (omega arith))))
-    (has_written_append g.W.Write.write_str_gives c.args.f.now (legs_text (take i legs)) c.loop-leg.f (leg_text (get_or legs i d)) c.write.new.self old (c.in_ok-write.ensures.shows old.plain (refl {a = true})))
+    (has_written_append g.W.Write.write_str_gives c.args.f.now (legs_text (take i legs)) c.loop-leg.f (leg_text (get_or legs i d)) c.write.new.self old (c.in_ok-write.ensures.writes old.plain (refl {a = true})))
