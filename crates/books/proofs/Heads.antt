@@ -5,7 +5,7 @@ use Rattle.std.specs.Option.{option_map, option_or}
 use Rattle.std.proofs.lemmas.Bool.{cases_lt, cond-true, cond-false, lt-ltb, le-ltb}
 use Rattle.std.proofs.lemmas.List.{drop_more, drop_all}
 use Rattle.books.specs.Told.{Told}
-use Rattle.books.specs.Options.{none_not_some, some_one}
+use Rattle.books.specs.Options.{none_not_some}
 use Rattle.books.specs.Faults.{listed, when, head, faultless, faults_from, in_list, gate_list_faults}
 use Rattle.books.specs.Records.{sound_only, sound_gate}
 

@@ -1,12 +1,12 @@
 -- Lemmas: the reckoned start of a tide's passage is the least, and the greatest, at which it is open.
-use Rattle.std.proofs.Common.{◌≡◌, ℕ, ◌+◌, ◌-◌, ◌*◌, ◌/◌, ◌%◌, ◌<◌, ◌≤◌, min, max, Bool, true, false, cond, ◌&&◌, leb, List, Some, None, Option, sym, refl, ap, ◌∙◌, subst, ⊎_elim, arith}
+use Rattle.std.proofs.Common.{◌≡◌, ℕ, ◌+◌, ◌-◌, ◌*◌, ◌/◌, ◌%◌, ◌<◌, ◌≤◌, min, max, Bool, true, false, ◌&&◌, leb, List, Some, None, Option, sym, ap, ◌∙◌, subst, ⊎_elim, arith}
 use native.Mathlib.Nat.{add-mod_right, mul-mod_left, mod-le}
 use Rattle.std.proofs.lemmas.Nat.{div-add-mod', mod-mul-add, mod_below}
 use Rattle.std.proofs.lemmas.Bool.{cases_Bool, cases_lt, leb-true, leb-false, cond_both, and_parts, and_cases}
 use Rattle.books.specs.Meaning.{first_open, last_open}
 use Rattle.books.specs.Records.{sound_gate}
 use Rattle.books.specs.Tides.{tide_faults, tide_opens, tidal_exits, next_start, tide_first, last_start, tide_last}
-use Rattle.books.specs.TideLaws.{TideFine, TideOpen, tide_open, tide_opens_at, sound_tide, tidal_takes, tidal_ends}
+use Rattle.books.specs.TideLaws.{TideFine, tide_open, tide_opens_at, sound_tide, tidal_takes, tidal_ends}
 use Rattle.books.specs.declared.tides.Tide.{Tide}
 use Rattle.books.proofs.Extremes.{Least, Greatest, first_lacks, first_none, first_some, last_lacks, last_none, last_some}
 

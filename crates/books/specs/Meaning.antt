@@ -1,5 +1,5 @@
 -- What a book means, what `first` and `last` answer of it, and the laws that it owes. Assumes nothing.
-use Rattle.std.specs.Prelude.{◌≡◌, ℕ, zero, suc, ◌+◌, ◌-◌, ◌<◌, ◌≤◌, Bool, true, false, cond, Some, None, Option, nat_le}
+use Rattle.std.specs.Prelude.{◌≡◌, ℕ, zero, suc, ◌-◌, ◌<◌, ◌≤◌, cond, Some, None, Option, nat_le}
 
 -- For each gate and instant: shut, or open with the instant at which a boat that enters then comes out.
 -- Instants are the whole minutes 0 to 20,160 of one fortnight.

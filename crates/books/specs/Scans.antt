@@ -1,7 +1,7 @@
 -- Lemmas: `first_open` and `last_open` find the extreme open instant, and nothing else is it.
 -- Nothing here is a definition that a contract cites.
-use Rattle.std.specs.Prelude.{◌≡◌, ℕ, zero, suc, ◌+◌, ◌-◌, ◌<◌, ◌≤◌, Bool, true, false, cond, ◌⊎◌, Some, None, Option, nat_le, refl}
-use Rattle.std.proofs.Common.{sym, ap, subst, inl, inr, ⊎_elim, arith}
+use Rattle.std.specs.Prelude.{◌≡◌, ℕ, zero, suc, ◌+◌, ◌-◌, ◌<◌, ◌≤◌, Bool, cond, Some, None, Option, nat_le, refl}
+use Rattle.std.proofs.Common.{sym, ap, subst, ⊎_elim, arith}
 use Rattle.std.proofs.lemmas.Bool.{cases_eq, cases_order, cases_Bool, leb-true, leb-false}
 use Rattle.books.specs.Meaning.{Exits, Lawful, open_or_later, first_of, first_open, out_or_earlier, last_below, last_open, LeastOpen, GreatestOut, FirstOpenIsLeast, LastOpenIsGreatest}
 use Rattle.books.specs.Options.{option_cases, none_not_some, some_one}

@@ -1,13 +1,13 @@
 -- Lemmas: a window book keeps the laws, and means what its rule says.
 -- Nothing here is a definition that a contract cites.
-use Rattle.std.specs.Prelude.{◌≡◌, ℕ, zero, suc, ◌+◌, ◌<◌, ◌≤◌, Bool, true, false, cond, not, ◌&&◌, ◌||◌, ltb, ◌⊎◌, List, [], ◌∷◌, Some, None, Option, ◌==◌, nat_le, nat_lt, refl}
-use Rattle.std.proofs.Common.{sym, ap, subst, ◌∙◌, inl, inr, ⊎_elim, arith}
+use Rattle.std.specs.Prelude.{◌≡◌, ℕ, zero, suc, ◌+◌, ◌<◌, ◌≤◌, Bool, true, false, not, ◌&&◌, ◌||◌, ltb, List, [], ◌∷◌, Some, None, ◌==◌, nat_le, nat_lt, refl}
+use Rattle.std.proofs.Common.{sym, ap, subst, ◌∙◌, ⊎_elim, arith}
 use Rattle.std.specs.List.{slice_get}
-use Rattle.std.proofs.lemmas.Bool.{leb-true, leb-false, le-leb, lt-leb, ltb-false, le-ltb, eqb-true, eq-eqb, ne_eqb, or_cases, or_parts, or_from, or_left, or_right, and_parts, and_from, not-true, not_from_false}
+use Rattle.std.proofs.lemmas.Bool.{leb-true, leb-false, le-leb, lt-leb, ltb-false, le-ltb, eqb-true, eq-eqb, or_cases, or_parts, or_from, or_left, or_right, and_parts, and_from, not-true, not_from_false}
 use Rattle.books.specs.Meaning.{Lawful, Means}
 use Rattle.books.specs.Options.{none_not_some, some_one}
 use Rattle.books.specs.Faults.{listed, when, faultless, passage_faults}
-use Rattle.books.specs.Records.{sound_gate, exits_by, exits_by_lawful, passed, exit_open}
+use Rattle.books.specs.Records.{sound_gate, exits_by_lawful, passed, exit_open}
 use Rattle.books.specs.Sound.{faultless_when, listed_gate, passage_fine, passage_none, gate_sound_only, sound_gate_all, sound_gate_lacks}
 use Rattle.books.specs.Windows.{window_faults, holds, held, timed_exits, TimedPassage}
 use Rattle.books.specs.declared.windows.Window.{Window}

@@ -1,5 +1,5 @@
 -- Lemmas: what a post replies and leaves.
-use Rattle.std.proofs.Common.{◌≡◌, ℕ, Bool, true, false, leb, List, [], ◌∷◌, ◌++◌, length, is_some, Some, None, Option, sym, refl, ap, ◌∙◌, ⊎_elim}
+use Rattle.std.proofs.Common.{◌≡◌, ℕ, Bool, leb, List, [], ◌∷◌, ◌++◌, length, is_some, Some, None, Option, sym, ap, ◌∙◌, ⊎_elim}
 use Rattle.books.specs.Options.{option_cases}
 use Rattle.layers.specs.Notices.{is_up, place_of, refusal_where, post_refusal, after_post, unless}
 use Rattle.layers.specs.declared.notices.Notice.{Notice}

@@ -1,5 +1,5 @@
 -- Lemmas: past the gates of both books nothing is open.
-use Rattle.std.proofs.Common.{◌≡◌, ℕ, ◌≤◌, Some, None, Option, sym, refl, ap, ◌∙◌}
+use Rattle.std.proofs.Common.{◌≡◌, ℕ, ◌≤◌, None, Option, sym, refl, ap, ◌∙◌}
 use Rattle.books.specs.Meaning.{Exits, first_open, last_open}
 use Rattle.books.specs.Options.{none_not_some}
 use Rattle.books.specs.Scans.{first_is, last_is}

@@ -4,10 +4,8 @@ use Rattle.books.specs.Meaning.{Exits, first_open, last_open}
 use Rattle.books.specs.Windows.{timed_exits}
 use Rattle.books.specs.Tides.{tidal_exits}
 use Rattle.books.specs.declared.windows.Window.{Window}
-use Rattle.books.specs.declared.tides.Tide.{Tide}
 use Rattle.layers.specs.Notices.{noticed_exits}
 use Rattle.layers.specs.TwoBooks.{two_exits}
-use Rattle.layers.specs.declared.notices.Notice.{Notice}
 
 -- the figures of an answer: its entry and its exit, and none where it is nothing
 abbrev pub figures : Option (ℕ × ℕ) → List ℕ

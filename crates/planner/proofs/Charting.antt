@@ -1,5 +1,5 @@
 -- Lemmas on the chart.
-use Rattle.std.proofs.Common.{◌≡◌, ℕ, zero, suc, List, [], ◌∷◌, ◌++◌, Some, None, Option, refl, subst}
+use Rattle.std.proofs.Common.{zero, suc, List, [], ◌∷◌, ◌++◌, Some, None, refl, subst}
 use Rattle.books.specs.Options.{none_not_some, some_one}
 use Rattle.search.specs.Walks.{Inside}
 use Rattle.search.specs.declared.reaches.Reach.{Reach}

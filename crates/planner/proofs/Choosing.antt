@@ -1,5 +1,5 @@
 -- Lemmas: the row that is chosen after a search, and what its label is worth among all walks.
-use Rattle.std.proofs.Common.{◌≡◌, ℕ, ◌+◌, ◌*◌, ◌<◌, ◌≤◌, Bool, true, false, eqb, ◌⊎◌, List, length, get_or, Some, None, Option, sym, refl, ap, ◌∙◌, subst, inl, inr, ⊎_elim, arith}
+use Rattle.std.proofs.Common.{◌≡◌, ℕ, ◌<◌, ◌≤◌, Bool, true, false, List, length, Some, None, Option, sym, refl, ap, ◌∙◌, subst, ⊎_elim, arith}
 use Rattle.std.proofs.lemmas.Bool.{cases_lt, both_ways, eq-eqb, eqb-true}
 use Rattle.books.specs.Options.{option_cases, none_not_some, some_one}
 use Rattle.search.specs.Laws.{Laws, Antisymmetric}
@@ -10,7 +10,7 @@ use Rattle.search.specs.declared.reaches.Reach.{Reach}
 use Rattle.search.proofs.Walked.{best_good, best_gone}
 use Rattle.planner.specs.Figures.{meets, labels, best_of, soonest_of}
 use Rattle.planner.specs.Ways.{LeastRow, Reached}
-use Rattle.planner.proofs.Tables.{Picked, picked_one, soonest_picked, best_none, best_picked}
+use Rattle.planner.proofs.Tables.{picked_one, soonest_picked, best_none, best_picked}
 
 meets_itself : (o : Option ℕ) (z : ℕ) → o ≡ Some z → meets o o ≡ true
 meets_itself o z h = ap (λ (p : Option ℕ). meets p p) h ∙ eq-eqb z z refl

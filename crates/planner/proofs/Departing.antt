@@ -1,15 +1,14 @@
 -- Lemmas: departures, the arrivals that a search gives them, and which of them is the fastest.
-use Rattle.std.proofs.Common.{◌≡◌, ℕ, zero, suc, ◌+◌, ◌-◌, ◌*◌, ◌<◌, ◌≤◌, Bool, true, false, ◌&&◌, ltb, leb, ◌⊎◌, List, [], ◌∷◌, ◌++◌, length, get_or, is_some, Some, None, Option, sym, refl, ap, ◌∙◌, subst, inl, inr, ⊎_elim, arith}
+use Rattle.std.proofs.Common.{◌≡◌, ℕ, zero, suc, ◌+◌, ◌-◌, ◌*◌, ◌<◌, ◌≤◌, Bool, true, false, ◌&&◌, ltb, leb, List, [], ◌∷◌, ◌++◌, length, get_or, is_some, Some, None, Option, sym, refl, ap, ◌∙◌, subst, ⊎_elim, arith}
 use Rattle.std.proofs.lemmas.Bool.{leb-true, le-leb, lt-ltb, and_from, cases_lt}
 use Rattle.std.specs.List.{slice_get, ContainsAt as Has}
 use Rattle.books.specs.Meaning.{Exits, Lawful, first_open, last_open}
 use Rattle.books.specs.Options.{none_not_some, some_one}
-use Rattle.search.specs.Reaches.{turned, all_turned}
+use Rattle.search.specs.Reaches.{all_turned}
 use Rattle.search.specs.Filled.{FirstRow, holds_row, RowFilled, NextRow}
 use Rattle.search.specs.Rows.{onward, lone, gathered, best, stirs, last_from}
 use Rattle.search.specs.Walks.{Leads, led, Unbeaten}
 use Rattle.search.specs.WayBack.{row_of}
-use Rattle.search.specs.declared.reaches.Direction.{Direction}
 use Rattle.search.specs.declared.reaches.Direction.TheVariants.{Along, Against}
 use Rattle.search.specs.declared.reaches.Reach.{Reach}
 use Rattle.search.proofs.Best.{rows_more, told_row, round_on, round_off}

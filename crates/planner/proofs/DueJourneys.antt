@@ -1,19 +1,19 @@
 -- Lemmas: journeys that arrive by an instant, and walks against the reaches.
-use Rattle.std.proofs.Common.{◌≡◌, ℕ, zero, suc, ◌+◌, ◌<◌, ◌≤◌, List, [], ◌∷◌, length, Some, None, Option, sym, refl, ap, ◌∙◌, subst, arith}
+use Rattle.std.proofs.Common.{◌≡◌, ℕ, ◌≤◌, List, [], ◌∷◌, length, Some, Option, sym, refl, ap, ◌∙◌, arith}
 use Rattle.std.specs.List.{slice_get}
 use Rattle.books.specs.Meaning.{Exits, Lawful, last_open}
 use Rattle.search.specs.Reaches.{turned, all_turned}
 use Rattle.search.specs.Rows.{onward}
-use Rattle.search.specs.Walks.{Inside, Leads, led}
+use Rattle.search.specs.Walks.{Leads, led}
 use Rattle.search.specs.declared.reaches.Direction.TheVariants.{Against}
 use Rattle.search.specs.declared.reaches.Reach.{Reach}
 use Rattle.planner.specs.Charts.{Charted}
-use Rattle.planner.specs.Journeys.{Waits, Chain, last_exit, Times, Journey}
+use Rattle.planner.specs.Journeys.{Waits, Chain, Times, Journey}
 use Rattle.planner.specs.Reckonings.{goes_in, goes_in_by, last_greatest}
 use Rattle.planner.specs.Routes.{then, leg_before, against, departs, arrives}
 use Rattle.planner.specs.Ways.{AtLast}
 use Rattle.planner.specs.declared.legs.Leg.{Leg}
-use Rattle.planner.proofs.ReadyJourneys.{has_turned, after_leg, route_of}
+use Rattle.planner.proofs.ReadyJourneys.{has_turned, route_of}
 
 module _ (gates : ℕ) (ex : Exits) (law : Lawful gates ex) (rs : List Reach) (charted : Charted rs) where
   -- a walk of m reaches against them from a boat that has to be at b at t, whose label at a is d at least

@@ -1,5 +1,5 @@
 -- Lemmas: legs arrive where the last of them comes out.
-use Rattle.std.proofs.Common.{◌≡◌, ℕ, zero, suc, ◌-◌, ◌<◌, List, [], ◌∷◌, length, get_or, sym, refl, ap, ◌∙◌, arith}
+use Rattle.std.proofs.Common.{◌≡◌, ℕ, suc, ◌-◌, ◌<◌, List, [], ◌∷◌, length, get_or, ap, ◌∙◌, arith}
 use Rattle.planner.specs.Routes.{arrives}
 use Rattle.planner.specs.declared.legs.Leg.{Leg}
 

@@ -1,12 +1,10 @@
 -- Lemmas: one step back through the rows of a search.
-use Rattle.std.proofs.Common.{◌≡◌, ℕ, zero, suc, ◌+◌, ◌-◌, ◌<◌, ◌≤◌, Bool, true, false, List, [], ◌∷◌, map, length, get_or, Some, None, Option, sym, refl, ap, ◌∙◌, subst, arith}
+use Rattle.std.proofs.Common.{◌≡◌, ℕ, zero, suc, ◌-◌, ◌<◌, ◌≤◌, Bool, List, [], ◌∷◌, length, get_or, Some, None, Option, sym, refl, ap, ◌∙◌, subst, arith}
 use Rattle.std.specs.List.{slice_get}
 use Rattle.books.specs.Meaning.{Exits, Lawful, first_open, last_open}
 use Rattle.books.specs.Options.{none_not_some, some_one}
 use Rattle.search.specs.Laws.{Laws, Antisymmetric}
 use Rattle.search.specs.Reaches.{turned, all_turned}
-use Rattle.search.specs.Rows.{lone}
-use Rattle.search.specs.Walks.{Inside}
 use Rattle.search.specs.WayBack.{row_of, step_back}
 use Rattle.search.specs.declared.reaches.Direction.{Direction}
 use Rattle.search.specs.declared.reaches.Direction.TheVariants.{Along, Against}

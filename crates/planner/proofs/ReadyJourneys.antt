@@ -1,15 +1,15 @@
 -- Lemmas: journeys that are ready at an instant, and walks along the reaches.
-use Rattle.std.proofs.Common.{◌≡◌, ℕ, zero, suc, ◌+◌, ◌<◌, ◌≤◌, List, [], ◌∷◌, map, length, get_or, Some, None, Option, sym, refl, ap, ◌∙◌, subst, arith}
+use Rattle.std.proofs.Common.{◌≡◌, ℕ, suc, ◌+◌, ◌≤◌, List, [], ◌∷◌, map, length, Some, Option, sym, refl, ap, ◌∙◌, subst, arith}
 use Rattle.std.specs.List.{slice_get, ContainsAt as Has}
 use Rattle.books.specs.Meaning.{Exits, Lawful, first_open}
 use Rattle.search.specs.Reaches.{turned, all_turned}
 use Rattle.search.specs.Rows.{onward}
-use Rattle.search.specs.Walks.{Inside, Leads, led}
+use Rattle.search.specs.Walks.{Leads, led}
 use Rattle.search.specs.declared.reaches.Direction.{Direction}
 use Rattle.search.specs.declared.reaches.Direction.TheVariants.{Along}
 use Rattle.search.specs.declared.reaches.Reach.{Reach}
 use Rattle.planner.specs.Charts.{Charted}
-use Rattle.planner.specs.Journeys.{Waits, Chain, last_exit, Times, Journey}
+use Rattle.planner.specs.Journeys.{Waits, Chain, Times, Journey}
 use Rattle.planner.specs.Reckonings.{comes_out, comes_out_by, first_least}
 use Rattle.planner.specs.Routes.{then, leg_before, along, departs, arrives}
 use Rattle.planner.specs.Ways.{AtFirst}

@@ -1,5 +1,5 @@
 -- Journeys over laid reaches, and when none betters an answer. Assumes nothing.
-use Rattle.std.specs.Prelude.{◌≡◌, ℕ, ◌-◌, ◌≤◌, List, [], ◌∷◌, length, Some, None, Option}
+use Rattle.std.specs.Prelude.{◌≡◌, ℕ, ◌-◌, ◌≤◌, List, [], ◌∷◌, length, Some}
 use Rattle.std.specs.List.{slice_get}
 use Rattle.books.specs.Meaning.{Exits}
 use Rattle.search.specs.declared.reaches.Reach.{Reach}

@@ -1,6 +1,6 @@
 -- The two reckonings over a book, and lemmas: both keep the laws. Assumes nothing.
-use Rattle.std.specs.Prelude.{◌≡◌, ℕ, ◌<◌, ◌≤◌, Bool, true, false, cond, ◌⊎◌, Some, None, Option, nat_le, refl}
-use Rattle.std.proofs.Common.{sym, subst, ap, ◌∙◌, inl, inr, ⊎_elim, arith}
+use Rattle.std.specs.Prelude.{◌≡◌, ℕ, ◌≤◌, Bool, Some, None, Option, nat_le, refl}
+use Rattle.std.proofs.Common.{subst, ap, inl, inr, ⊎_elim, arith}
 use Rattle.std.proofs.lemmas.Bool.{cases_lt, leb-true, le-leb}
 use Rattle.books.specs.Meaning.{Exits, Lawful, first_open, last_open, LeastOpen, GreatestOut}
 use Rattle.books.specs.Options.{none_not_some, some_one}

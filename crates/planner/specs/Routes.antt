@@ -1,5 +1,5 @@
 -- The legs that a route gives, by the rules of entry, and the figures of legs. A route is a list of reach numbers. Assumes nothing.
-use Rattle.std.specs.Prelude.{◌≡◌, ℕ, List, [], ◌∷◌, length, Some, None, Option}
+use Rattle.std.specs.Prelude.{ℕ, List, [], ◌∷◌, length, Some, None, Option}
 use Rattle.std.specs.List.{slice_get}
 use Rattle.books.specs.Meaning.{Exits, first_open, last_open}
 use Rattle.search.specs.declared.reaches.Reach.{Reach}

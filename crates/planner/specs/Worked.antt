@@ -4,14 +4,11 @@ use Rattle.books.specs.Meaning.{Exits, first_open, last_open}
 use Rattle.books.specs.Windows.{timed_exits}
 use Rattle.books.specs.Tides.{tidal_exits}
 use Rattle.books.specs.declared.windows.Window.{Window}
-use Rattle.books.specs.declared.tides.Tide.{Tide}
 use Rattle.layers.specs.Notices.{noticed_exits}
 use Rattle.layers.specs.TwoBooks.{two_exits}
-use Rattle.layers.specs.declared.notices.Notice.{Notice}
 use Rattle.search.specs.declared.reaches.Reach.{Reach}
 use Rattle.planner.specs.Figures.{foremost_figures, fewest_figures, latest_figures}
 use Rattle.planner.specs.Routes.{along, against, figures}
-use Rattle.planner.specs.declared.legs.Answer.{Answer}
 use Rattle.planner.specs.declared.legs.Leg.{Leg}
 
 -- the figures of an answer: its entry and its exit, and none where it is nothing

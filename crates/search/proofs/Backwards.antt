@@ -1,8 +1,7 @@
 -- Lemmas: the way back from the least row with a label is a walk with that label.
-use Rattle.std.proofs.Common.{◌≡◌, ℕ, zero, suc, ◌+◌, ◌-◌, ◌*◌, ◌<◌, ◌≤◌, Bool, true, false, cond, not, ◌&&◌, eqb, ltb, leb, ◌⊎◌, List, [], ◌∷◌, length, get_or, drop, Some, None, Option, sym, refl, ap, ◌∙◌, subst, inl, inr, ⊎_elim, add-one, arith}
+use Rattle.std.proofs.Common.{◌≡◌, ℕ, zero, suc, ◌+◌, ◌-◌, ◌<◌, ◌≤◌, Bool, true, false, cond, not, ◌&&◌, eqb, ltb, leb, List, [], ◌∷◌, length, get_or, drop, Some, None, Option, sym, refl, ap, ◌∙◌, subst, ⊎_elim, add-one, arith}
 use Rattle.std.specs.List.{slice_get, ContainsAt as Has}
 use Rattle.std.proofs.lemmas.List.{at_drop_more, at_drop_all}
-use Rattle.std.proofs.lemmas.Option.{slice_get-get_or}
 use Rattle.std.proofs.lemmas.Bool.{cases_Bool, cond-true, cond-false, eqb-true, eq-eqb, lt-ltb, le-leb, and_parts, and_from, not-true, not-false, not_from_false}
 use Rattle.search.specs.Laws.{Laws, Antisymmetric}
 use Rattle.search.specs.Reaches.{in_chart, turned, all_turned}
@@ -12,7 +11,7 @@ use Rattle.search.specs.WayBack.{brings, bringer, row_of, came_by, readable, ste
 use Rattle.search.specs.declared.reaches.Direction.{Direction}
 use Rattle.search.specs.declared.reaches.Reach.{Reach}
 use Rattle.search.proofs.CellSteps.{inside}
-use Rattle.search.proofs.Walked.{Brought, charted, itself, gathered_by, gathered_from, onward_some, onward_good, never, best_gone}
+use Rattle.search.proofs.Walked.{Brought, charted, itself, gathered_by, gathered_from, onward_some, onward_good, best_gone}
 
 some_one : {A : Type 0} (o : Option A) (a b : A) → o ≡ Some a → o ≡ Some b → a ≡ b
 some_one o a b p q = cc

@@ -1,8 +1,8 @@
 -- Lemmas: from the rows to the walks.
-use Rattle.std.proofs.Common.{◌≡◌, ℕ, ◌+◌, ◌*◌, ◌<◌, ◌≤◌, Bool, true, false, List, [], ◌∷◌, length, get_or, Some, None, Option, sym, refl, ap, ◌∙◌, arith}
+use Rattle.std.proofs.Common.{◌≡◌, ℕ, ◌+◌, ◌*◌, ◌<◌, ◌≤◌, Bool, List, get_or, None, Option, sym, refl, ap, ◌∙◌, arith}
 use Rattle.search.specs.Laws.{Laws}
 use Rattle.search.specs.Rows.{lone, best, last_from}
-use Rattle.search.specs.Walks.{Leads, led, Good, Gone, Unbeaten}
+use Rattle.search.specs.Walks.{Unbeaten}
 use Rattle.search.specs.declared.reaches.Reach.{Reach}
 use Rattle.search.proofs.Best.{last_like, last_within}
 use Rattle.search.proofs.Walked.{best_good, best_gone}

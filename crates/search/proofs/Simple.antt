@@ -1,12 +1,12 @@
 -- Lemmas: a list of distinct numbers below n has at most n of them, and a walk that visits a place twice is no better than
 -- one that doesn't, so that 63 reaches suffice.
-use Rattle.std.proofs.Common.{◌≡◌, ℕ, zero, suc, ◌+◌, ◌<◌, ◌≤◌, Bool, true, false, cond, eqb, ◌⊎◌, List, [], ◌∷◌, length, Some, None, Option, sym, refl, ap, ◌∙◌, subst, inl, inr, ⊎_elim, arith}
-use Rattle.std.proofs.lemmas.Bool.{cases_eq, cases_lt, cond_both, eqb-true, cases_Bool, cond-true, cond-false, eqb-false}
+use Rattle.std.proofs.Common.{◌≡◌, ℕ, zero, suc, ◌<◌, ◌≤◌, Bool, cond, eqb, ◌⊎◌, List, [], ◌∷◌, length, Some, Option, sym, refl, ap, ◌∙◌, inl, inr, ⊎_elim, arith}
+use Rattle.std.proofs.lemmas.Bool.{cases_eq, cases_lt, cond_both, eqb-true, eqb-false}
 use Rattle.std.specs.List.{AllByRecursion as All}
 use Rattle.search.specs.declared.reaches.Reach.{Reach}
 use Rattle.search.specs.Laws.{Laws}
 use Rattle.search.specs.Rows.{onward, lone, best}
-use Rattle.search.specs.Walks.{Inside, Leads, led, Good}
+use Rattle.search.specs.Walks.{Leads, led, Good}
 use Rattle.search.proofs.Walked.{itself, good_trans, onward_some, best_good}
 
 abbrev pub Distinct : List ℕ → Type 0

@@ -1,5 +1,5 @@
 -- The laws of a reckoning. Assumes nothing.
-use Rattle.std.specs.Prelude.{◌≡◌, ℕ, Bool, true, false, ◌⊎◌, Some, None, Option}
+use Rattle.std.specs.Prelude.{◌≡◌, ℕ, Bool, true, ◌⊎◌, Some, Option}
 
 -- good x y: x is at least as good as y; goes g x: what x goes on to through gate g, if it can
 pub record Laws {L : Type 0} (good : L → L → Bool) (goes : ℕ → L → Option L) : Type 0 where

@@ -1,5 +1,5 @@
 -- Reaches as a search goes over them. Assumes nothing.
-use Rattle.std.specs.Prelude.{ℕ, Bool, ◌&&◌, List, map, nat_lt}
+use Rattle.std.specs.Prelude.{Bool, ◌&&◌, List, map, nat_lt}
 use Rattle.search.specs.declared.reaches.Direction.{Direction}
 use Rattle.search.specs.declared.reaches.Direction.TheVariants.{Along, Against}
 use Rattle.search.specs.declared.reaches.Reach.{Reach}

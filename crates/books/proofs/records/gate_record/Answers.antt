@@ -1,8 +1,7 @@
-use Rattle.std.proofs.Common.{◌≡◌, ℕ, length, get_or, Some, None, sym, refl, ◌∙◌, subst, arith}
+use Rattle.std.proofs.Common.{◌≡◌, ℕ, length, get_or, Some, refl, subst, arith}
 use Rattle.std.specs.List.{slice_get}
 use Rattle.std.proofs.lemmas.Option.{slice_get_read}
 use Rattle.books.proofs.Heads.{gate_sound, gate_faulty}
-use Rattle.books.proofs.records.gate_record.Given as given
 use Rattle.books.proofs.records.gate_record.Goals as goal
 
 pub returns-in-None : goal.returns-in-None

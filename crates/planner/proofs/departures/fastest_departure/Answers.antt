@@ -1,10 +1,10 @@
-use Rattle.std.proofs.Common.{◌≡◌, ℕ, ◌+◌, ◌-◌, ◌<◌, ◌≤◌, length, Some, None, Option, sym, refl, ap, ◌∙◌, subst, arith, rules}
+use Rattle.std.proofs.Common.{◌≡◌, ℕ, ◌+◌, ◌-◌, ◌<◌, ◌≤◌, length, Some, Option, sym, refl, ◌∙◌, subst, arith, rules}
 use Rattle.search.specs.Reaches.{all_turned}
 use Rattle.search.specs.WayBack.{row_of}
 use Rattle.search.specs.declared.reaches.Direction.TheVariants.{Along}
 use Rattle.planner.specs.Departures.{Arrival, HeldSoFar}
 use Rattle.planner.specs.Reckonings.{no_later, comes_out}
-use Rattle.planner.proofs.Departing.{SearchedFrom, searched_at, rounds_begin, rounds_end, rounds_more, rounds_left, row_best, arrival, so_faster, so_slower, so_past, so_none, so_zero}
+use Rattle.planner.proofs.Departing.{SearchedFrom, searched_at, rounds_begin, rounds_end, rounds_more, rounds_left, row_best, arrival, so_faster, so_slower, so_past, so_none}
 use Rattle.planner.proofs.departures.fastest_departure.Goals as goal
 use Rattle.planner.proofs.departures.fastest_departure.Goals.{else-rounds-test, then-rounds-test+then-not-told, then-arrival-d, else-arrival-d}
 

@@ -1,4 +1,4 @@
-use Rattle.std.proofs.Common.{◌-◌, ◌≤◌}
+use Rattle.std.proofs.Common.{◌-◌}
 use Rattle.planner.specs.Departures.{HeldSoFar}
 use Rattle.planner.proofs.Departing.{Rounds}
 use Rattle.planner.proofs.departures.fastest_departure.Given as goal

@@ -1,5 +1,5 @@
-use Rattle.std.proofs.Common.{◌≡◌, ℕ, ◌+◌, ◌-◌, ◌*◌, ◌<◌, length, get_or, is_some, None, sym, ap, ◌∙◌, arith, rules}
-use Rattle.planner.proofs.Reading.{blank, found_against, came_against, passes_against, leg_against_lem}
+use Rattle.std.proofs.Common.{ℕ, ◌+◌, ◌-◌, ◌*◌, ◌<◌, length, get_or, is_some, None, sym, ap, ◌∙◌, arith, rules}
+use Rattle.planner.proofs.Reading.{found_against, came_against, passes_against, leg_against_lem}
 use Rattle.planner.proofs.ways.leg_against.Goals as goal
 
 pub unwrap-n-requires : goal.unwrap-n-requires

@@ -1,5 +1,5 @@
-use Rattle.std.proofs.Common.{◌≡◌, ℕ, ◌+◌, ◌-◌, ◌*◌, ◌<◌, length, get_or, is_some, None, sym, ap, ◌∙◌, arith, rules}
-use Rattle.planner.proofs.Reading.{blank, found_along, came_along, passes_along, leg_along_lem}
+use Rattle.std.proofs.Common.{ℕ, ◌+◌, ◌-◌, ◌*◌, ◌<◌, length, get_or, is_some, None, sym, ap, ◌∙◌, arith, rules}
+use Rattle.planner.proofs.Reading.{found_along, came_along, passes_along, leg_along_lem}
 use Rattle.planner.proofs.ways.leg_along.Goals as goal
 
 pub unwrap-n-requires : goal.unwrap-n-requires

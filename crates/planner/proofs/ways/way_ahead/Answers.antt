@@ -1,4 +1,4 @@
-use Rattle.std.proofs.Common.{◌≡◌, ℕ, ◌-◌, ltb, List, length, take, Some, None, Option, sym, refl, ap, ◌∙◌, subst, arith}
+use Rattle.std.proofs.Common.{◌≡◌, ℕ, ◌-◌, ltb, length, take, Some, None, Option, sym, refl, ap, ◌∙◌, subst, arith}
 use Rattle.std.proofs.lemmas.Bool.{cond-false, le-ltb}
 use Rattle.books.specs.Options.{none_not_some}
 use Rattle.search.specs.Reaches.{all_turned}
@@ -6,7 +6,7 @@ use Rattle.search.specs.Rows.{lone, last_from}
 use Rattle.search.specs.declared.reaches.Direction.TheVariants.{Along}
 use Rattle.planner.specs.Reckonings.{no_later, comes_out}
 use Rattle.planner.specs.Journeys.{Ready}
-use Rattle.planner.specs.Outcomes.{LookedFor, AheadUnbeaten, ahead_figures, arrival_figures}
+use Rattle.planner.specs.Outcomes.{LookedFor, AheadUnbeaten, arrival_figures}
 use Rattle.planner.specs.Routes.{along, figures}
 use Rattle.planner.specs.Ways.{LeastRow}
 use Rattle.planner.specs.declared.legs.Answer.{Answer}

@@ -1,10 +1,9 @@
-use Rattle.std.proofs.Common.{◌≡◌, ℕ, ◌+◌, ◌-◌, ◌*◌, ◌<◌, ◌≤◌, Bool, ◌||◌, List, length, get_or, drop, None, Option, sym, refl, ap, ◌∙◌, subst, inl, inr, arith}
+use Rattle.std.proofs.Common.{◌+◌, ◌-◌, ◌*◌, ◌<◌, ◌≤◌, Bool, List, length, get_or, drop, None, Option, sym, refl, ap, ◌∙◌, subst, inl, inr, arith}
 use Rattle.std.proofs.lemmas.List.{at_drop_all}
 use Rattle.std.specs.List.{ContainsAt as Has}
 use Rattle.search.specs.Reaches.{all_turned}
 use Rattle.search.specs.Rows.{rounded, stirred}
 use Rattle.search.specs.Walks.{Good}
-use Rattle.search.specs.declared.reaches.Reach.{Reach}
 use Rattle.search.proofs.CellSteps.{relaxed_outside, rounded_more, stirred_more}
 use Rattle.search.proofs.Skipped.{quiet, no_worse_on, rounded_skip, stirred_skip, turned_has}
 use Rattle.search.proofs.rounds.pass.Goals as goal

@@ -1,4 +1,4 @@
-use Rattle.std.proofs.Common.{◌≡◌, ℕ, ◌+◌, ◌-◌, ◌*◌, ◌<◌, ◌≤◌, length, get_or, None, sym, refl, ap, ◌∙◌, arith}
+use Rattle.std.proofs.Common.{◌≡◌, ℕ, ◌+◌, ◌-◌, ◌*◌, ◌<◌, ◌≤◌, length, get_or, None, refl, ap, ◌∙◌, arith}
 use Rattle.search.specs.Reaches.{all_turned}
 use Rattle.search.specs.Rows.{best, last_from}
 use Rattle.search.proofs.Best.{rows_more, told_row, round_on, round_off}

@@ -1,4 +1,4 @@
-use Rattle.std.proofs.Common.{◌+◌, ◌-◌, ◌*◌, ◌<◌, ◌≤◌, length, sym, ◌∙◌, arith}
+use Rattle.std.proofs.Common.{◌+◌, ◌-◌, ◌*◌, ◌≤◌, length, sym, ◌∙◌, arith}
 use Rattle.search.specs.Reaches.{all_turned}
 use Rattle.search.specs.Rows.{RoundBefore, Carried}
 use Rattle.search.proofs.CellSteps.{advanced_row, advanced_told}

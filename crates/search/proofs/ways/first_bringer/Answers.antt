@@ -1,4 +1,4 @@
-use Rattle.std.proofs.Common.{◌≡◌, ◌+◌, get_or, None, sym, ◌∙◌}
+use Rattle.std.proofs.Common.{◌+◌, get_or, None, sym, ◌∙◌}
 use Rattle.search.proofs.Backwards.{bringer_here, bringer_again, bringer_nowhere}
 use Rattle.search.proofs.ways.first_bringer.Goals as goal
 

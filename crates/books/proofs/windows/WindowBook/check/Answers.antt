@@ -1,4 +1,4 @@
-use Rattle.std.proofs.Common.{◌≡◌, ℕ, codes, ap, ◌∙◌}
+use Rattle.std.proofs.Common.{ℕ, codes, ap, ◌∙◌}
 use Rattle.books.specs.Told.{told, finding_told}
 use Rattle.books.specs.Faults.{listed, head, faults_from, in_list, gate_list_faults, passage_faults}
 use Rattle.books.specs.Windows.{window_faults}

@@ -1,7 +1,6 @@
-use Rattle.std.proofs.Common.{◌≡◌, ℕ, List, ◌++◌, Some, codes, decimal, sym, ap, ◌∙◌}
+use Rattle.std.proofs.Common.{◌≡◌, ℕ, List, ◌++◌, codes, decimal, sym, ap, ◌∙◌}
 use Rattle.std.proofs.Output.{has_written_of_eq}
-use Rattle.books.specs.Told.{fault_number, list_word}
-use Rattle.books.specs.declared.faults.Finding.{Finding}
+use Rattle.books.specs.Told.{list_word}
 use Rattle.delivery.specs.Texts.{check_text}
 use Rattle.delivery.proofs.texts.CheckedDisplay.fmt.Goals as goal
 

@@ -1,4 +1,4 @@
-use Rattle.std.proofs.Common.{◌≡◌, List, vec_items, sym, refl, ap, ◌∙◌, arith}
+use Rattle.std.proofs.Common.{List, vec_items, sym, refl, ap, ◌∙◌, arith}
 use Rattle.layers.specs.Notices.{place_of}
 use Rattle.layers.specs.NoticeLaws.{noticed_means}
 use Rattle.layers.specs.declared.notices.Notice.{Notice}

@@ -1,4 +1,4 @@
-use Rattle.std.proofs.Common.{◌≡◌, List, is_some, vec_items, sym, refl, ap, ◌∙◌}
+use Rattle.std.proofs.Common.{List, is_some, vec_items, refl, ap, ◌∙◌}
 use Rattle.layers.specs.Notices.{place_of, refusal_number}
 use Rattle.layers.specs.NoticeLaws.{noticed_means}
 use Rattle.layers.specs.declared.notices.Notice.{Notice}

@@ -1,8 +1,8 @@
-use Rattle.std.proofs.Common.{◌≡◌, ℕ, List, vec_items, Option, sym, ap, ◌∙◌, arith}
+use Rattle.std.proofs.Common.{List, vec_items, ap, ◌∙◌, arith}
 use Rattle.books.specs.Scans.{lawful_in_time}
 use Rattle.layers.specs.Notices.{hindering, noticed_exits}
 use Rattle.layers.specs.declared.notices.Notice.{Notice}
-use Rattle.layers.proofs.Steps.{Shut, first_nothing, first_clear, first_step, shut_over}
+use Rattle.layers.proofs.Steps.{first_nothing, first_clear, first_step, shut_over}
 use Rattle.layers.proofs.notices.open.NoticedBook.first.Goals as goal
 
 pub returns-in_err-s : goal.returns-in_err-s

@@ -1,8 +1,8 @@
-use Rattle.std.proofs.Common.{◌≡◌, ℕ, List, vec_items, Option, sym, ap, ◌∙◌, arith}
+use Rattle.std.proofs.Common.{List, vec_items, ap, ◌∙◌, arith}
 use Rattle.books.specs.Scans.{lawful_in_time}
 use Rattle.layers.specs.Notices.{hindering, noticed_exits}
 use Rattle.layers.specs.declared.notices.Notice.{Notice}
-use Rattle.layers.proofs.Steps.{Out, last_nothing, last_clear, last_step, out_over}
+use Rattle.layers.proofs.Steps.{last_nothing, last_clear, last_step, out_over}
 use Rattle.layers.proofs.notices.open.NoticedBook.last.Goals as goal
 
 pub returns-in_err-s : goal.returns-in_err-s
