@@ -44,7 +44,7 @@
 //! crates/examples/stdout. To build and run it, from the top of the checkout:
 //!
 //! ```text
-//! rustc -O --edition 2021 -o target/reference reference/main.rs && target/reference < crates/examples/stdin
+//! mkdir -p target && rustc -O --edition 2021 -o target/reference reference/main.rs && target/reference < crates/examples/stdin
 //! ```
 
 use std::collections::HashMap;

@@ -31,7 +31,7 @@ faultless_both [] ns = refl
 faultless_both (m ∷ ms) ns = refl
 
 pub listed_gate : {R : Type 0} (rs : List R) (g : ℕ) (r : R) → g < 256 → slice_get rs g ≡ Some r → g < listed rs
-listed_gate rs g r lt at = ⊎_elim (λ in_List. omega arith) (λ past. none_not_some (slice_get rs g) r (slice_get_past rs g past) at) (cases_lt g (length rs))
+listed_gate rs g r lt at = ⊎_elim (λ within. omega arith) (λ past. none_not_some (slice_get rs g) r (slice_get_past rs g past) at) (cases_lt g (length rs))
 
 -- the record of gate g is one of the list's gates and has no fault
 pub record SoundGate {R : Type 0} (faults : ℕ → R → List ℕ) (rs : List R) (g : ℕ) (r : R) : Type 0 where

@@ -1,6 +1,6 @@
 -- Lemmas: a window book keeps the laws, and means what its rule says.
 -- Nothing here is a definition that a contract cites.
-use Rattle.std.specs.Prelude.{◌≡◌, ℕ, zero, suc, ◌+◌, ◌<◌, ◌≤◌, Bool, true, false, not, ◌&&◌, ◌||◌, ltb, List, [], ◌∷◌, Some, None, ◌==◌, nat_le, nat_lt, refl}
+use Rattle.std.specs.Prelude.{◌≡◌, ℕ, zero, suc, ◌+◌, ◌<◌, ◌≤◌, Bool, true, false, not, ◌&&◌, ◌||◌, List, [], ◌∷◌, Some, None, ◌==◌, nat_le, nat_lt, refl}
 use Rattle.std.proofs.Common.{sym, ap, subst, ◌∙◌, ⊎_elim, arith}
 use Rattle.std.specs.List.{slice_get}
 use Rattle.std.proofs.lemmas.Bool.{leb-true, leb-false, le-leb, lt-leb, ltb-false, le-ltb, eqb-true, eq-eqb, or_cases, or_parts, or_from, or_left, or_right, and_parts, and_from, not-true, not_from_false}
@@ -29,14 +29,14 @@ pub record WindowFine (n : ℕ) (w : Window) : Type 0 where
 
 pub window_fine : (n : ℕ) (w : Window) → faultless (window_faults n w) ≡ true → WindowFine n w
 window_fine n w h =
-    let bad = nat_lt w.end w.begin || ltb 20160 w.end in
+    let bad = nat_lt w.end w.begin || nat_lt 20160 w.end in
     let two = and_parts (not (nat_le n w.gate)) (not bad) (sym (window_test n w) ∙ h) in
     let span = or_parts (nat_lt w.end w.begin) (nat_lt 20160 w.end) (not-true bad two.1) in
     record { gate = leb-false n w.gate (not-true (nat_le n w.gate) two.0); ordered = ltb-false w.end w.begin span.0; in_time = ltb-false 20160 w.end span.1 }
 
 window_none : (n : ℕ) (w : Window) → WindowFine n w → faultless (window_faults n w) ≡ true
 window_none n w f =
-    let bad = nat_lt w.end w.begin || ltb 20160 w.end in
+    let bad = nat_lt w.end w.begin || nat_lt 20160 w.end in
     window_test n w
     ∙ and_from (not (nat_le n w.gate)) (not bad) (not_from_false (nat_le n w.gate) (lt-leb n w.gate f.gate)) (not_from_false bad (or_from (nat_lt w.end w.begin) (nat_lt 20160 w.end) (le-ltb w.end w.begin f.ordered) (le-ltb 20160 w.end f.in_time)))
 
@@ -112,8 +112,8 @@ module _ (ps : List ℕ) (ws : List Window) where
   timed_all : (g s e : ℕ) → TimedPassage ps ws g s e → timed_exits ps ws g s ≡ Some e
   timed_all g s e t =
       let p = t.minutes in
-      let in_List = listed_gate ps g p t.among t.its_entry in
-      let at = sound_gate_all passage_faults ps g p (record { among = in_List; found = t.its_entry; fine = passage_none (listed ps) p t.some t.within }) in
+      let in_list = listed_gate ps g p t.among t.its_entry in
+      let at = sound_gate_all passage_faults ps g p (record { among = in_list; found = t.its_entry; fine = passage_none (listed ps) p t.some t.within }) in
       let fine : WindowFine (listed ps) t.window = record { gate = omega (arith, t.its_gate); ordered = t.ordered; in_time = t.in_time } in
       let y = held_at (listed ps) ws g p s t.place t.window t.window_at t.its_gate fine t.opened (omega (arith, t.out, t.closes)) in
       exit_open (λ p. p) (held (listed ps) ws) (sound_gate passage_faults ps) g s p at y ∙ ap Some (sym t.out)

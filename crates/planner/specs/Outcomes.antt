@@ -40,7 +40,7 @@ abbrev pub latest_reply : ℕ → ℕ → List Reach → Exits → ℕ → ℕ �
 latest_reply cells legs rs ex a b t = declined_or (question_fault cells legs a b t) (found_or_5 (latest_figures rs ex a b t))
 
 -- ---- the answer and its legs, in words of journeys
--- The answer stands for the legs at the head of the leg list, and the entries after them stay. By-rule gives the legs of a
+-- The answer stands for the legs at the head of the leg list, and the entries after them stay. by_rule gives the legs of a
 -- route; which route it is, among ties, is the one thing left open. t is the instant asked for.
 pub record Found (rs : List Reach) (ex : Exits) (a b t : ℕ) (Fits : ℕ → ℕ → Type 0) (Unbeaten : Answer → Type 0) (by_rule : List ℕ → Option (List Leg)) (old new : List Leg) (ans : Answer) : Type 0 where
   pub few : ans.reaches ≤ 63

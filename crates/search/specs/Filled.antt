@@ -1,5 +1,5 @@
 -- What a search leaves in its cells, and returns. Assumes nothing.
-use Rattle.std.specs.Prelude.{◌≡◌, ℕ, ◌+◌, ◌-◌, ◌*◌, ◌<◌, ◌≤◌, Bool, true, false, cond, ◌&&◌, List, length, get_or, Some, None, Option, nat_le, nat_lt, slice_index_or}
+use Rattle.std.specs.Prelude.{◌≡◌, ℕ, ◌+◌, ◌-◌, ◌*◌, ◌<◌, ◌≤◌, Bool, true, false, cond, ◌&&◌, List, length, slice_index_or, Some, None, Option, nat_le, nat_lt}
 use Rattle.search.specs.Rows.{lone, gathered, best, stirs, last_from, RoundBefore}
 use Rattle.search.specs.Walks.{Unbeaten}
 use Rattle.search.specs.declared.reaches.Reach.{Reach}
@@ -37,7 +37,7 @@ RowFilled false good goes es k old new told = (told ≡ false) × (new ≡ old)
 RowFilled true good goes es k old new told =
     ((j : ℕ) → j < 64 * k → slice_index_or new j None ≡ slice_index_or old j None)
     × ((j : ℕ) → 64 * k + 64 ≤ j → slice_index_or new j None ≡ slice_index_or old j None)
-    × (RoundBefore good goes es old k → (told ≡ stirs good goes es (λ u. get_or old (64 * (k - 1) + u) None)) × ((v : ℕ) → v < 64 → slice_index_or new (64 * k + v) None ≡ gathered good goes es (λ u. get_or old (64 * (k - 1) + u) None) v (slice_index_or old (64 * (k - 1) + v) None)))
+    × (RoundBefore good goes es old k → (told ≡ stirs good goes es (λ u. slice_index_or old (64 * (k - 1) + u) None)) × ((v : ℕ) → v < 64 → slice_index_or new (64 * k + v) None ≡ gathered good goes es (λ u. slice_index_or old (64 * (k - 1) + u) None) v (slice_index_or old (64 * (k - 1) + v) None)))
 
 abbrev pub NextRow : {L : Type 0} → (L → L → Bool) → (ℕ → L → Option L) → List Reach → ℕ → List (Option L) → List (Option L) → Bool → Type 0
 NextRow good goes es k old new told = RowFilled (holds_row old k) good goes es k old new told

@@ -1,5 +1,5 @@
 -- Rows of best labels, one cell for each of the 64 places. Assumes nothing.
-use Rattle.std.specs.Prelude.{◌≡◌, ℕ, zero, suc, ◌+◌, ◌-◌, ◌*◌, ◌<◌, ◌≤◌, Bool, true, false, cond, not, ◌&&◌, ◌||◌, List, [], ◌∷◌, get_or, Some, None, Option, ◌==◌, nat_lt, slice_index_or, slice_set}
+use Rattle.std.specs.Prelude.{◌≡◌, ℕ, zero, suc, ◌+◌, ◌-◌, ◌*◌, ◌<◌, ◌≤◌, Bool, true, false, cond, not, ◌&&◌, ◌||◌, List, [], ◌∷◌, slice_index_or, Some, None, Option, ◌==◌, nat_lt, slice_set}
 use Rattle.search.specs.Reaches.{in_chart}
 use Rattle.search.specs.declared.reaches.Reach.{Reach}
 
@@ -66,7 +66,7 @@ fresh good cells k u = nat_lt u 64 && (nat_lt k 2 || bettering good (slice_index
 
 -- row k - 1 came from row k - 2 by a round over the reaches, if there is a row k - 2
 abbrev pub RoundBefore : {L : Type 0} → (L → L → Bool) → (ℕ → L → Option L) → List Reach → List (Option L) → ℕ → Type 0
-RoundBefore good goes es cells k = 2 ≤ k → (v : ℕ) → v < 64 → slice_index_or cells (64 * (k - 1) + v) None ≡ gathered good goes es (λ u. get_or cells (64 * (k - 2) + u) None) v (slice_index_or cells (64 * (k - 2) + v) None)
+RoundBefore good goes es cells k = 2 ≤ k → (v : ℕ) → v < 64 → slice_index_or cells (64 * (k - 1) + v) None ≡ gathered good goes es (λ u. slice_index_or cells (64 * (k - 2) + u) None) v (slice_index_or cells (64 * (k - 2) + v) None)
 
 -- row k is like row k - 1, and that came by a round
 abbrev pub Carried : {L : Type 0} → (L → L → Bool) → (ℕ → L → Option L) → List Reach → List (Option L) → ℕ → Type 0

@@ -1,5 +1,5 @@
 // One round over the reaches, from one row of cells into the next.
-ghost use Rattle.std.specs.Prelude.{◌≡◌, ℕ, ◌+◌, ◌-◌, ◌*◌, ◌<◌, ◌≤◌, false, length, get_or, None, slice_index_or};
+ghost use Rattle.std.specs.Prelude.{◌≡◌, ℕ, ◌+◌, ◌-◌, ◌*◌, ◌<◌, ◌≤◌, false, length, slice_index_or, None};
 ghost use Rattle.search.specs.Reaches.{turned, all_turned};
 ghost use Rattle.search.specs.Rows.{onward, bettering, tells, relaxed, rounded, stirred, gathered, stirs, fresh, RoundBefore, Carried};
 
@@ -129,10 +129,10 @@ pub(crate) fn advance<R: Reckoning>(
 ) -> bool
     requires sizes { (0 < k) × ((k < 64) × (4096 ≤ length cells.old)) }
     requires before { RoundBefore (R.good by.now) (R.goes by.now) (all_turned direction reaches.now) cells.old k }
-    ensures row { (v : ℕ) → v < 64 → slice_index_or cells.new (64 * k + v) None ≡ gathered (R.good by.now) (R.goes by.now) (all_turned direction reaches.now) (λ u. get_or cells.old (64 * (k - 1) + u) None) v (slice_index_or cells.old (64 * (k - 1) + v) None) }
+    ensures row { (v : ℕ) → v < 64 → slice_index_or cells.new (64 * k + v) None ≡ gathered (R.good by.now) (R.goes by.now) (all_turned direction reaches.now) (λ u. slice_index_or cells.old (64 * (k - 1) + u) None) v (slice_index_or cells.old (64 * (k - 1) + v) None) }
     ensures below { (j : ℕ) → j < 64 * k → slice_index_or cells.new j None ≡ slice_index_or cells.old j None }
     ensures above { (j : ℕ) → 64 * k + 64 ≤ j → slice_index_or cells.new j None ≡ slice_index_or cells.old j None }
-    ensures told { result ≡ stirs (R.good by.now) (R.goes by.now) (all_turned direction reaches.now) (λ u. get_or cells.old (64 * (k - 1) + u) None) }
+    ensures told { result ≡ stirs (R.good by.now) (R.goes by.now) (all_turned direction reaches.now) (λ u. slice_index_or cells.old (64 * (k - 1) + u) None) }
 {
     carry(cells, 64 * (k - 1), 64 * k);
     round(by, direction, reaches, cells, k)

@@ -1,5 +1,5 @@
 // The search.
-ghost use Rattle.std.specs.Prelude.{◌≡◌, ℕ, ◌+◌, ◌-◌, ◌*◌, ◌<◌, ◌≤◌, length, get_or, None, slice_index_or};
+ghost use Rattle.std.specs.Prelude.{◌≡◌, ℕ, ◌+◌, ◌-◌, ◌*◌, ◌<◌, ◌≤◌, length, slice_index_or, None};
 ghost use Rattle.search.specs.Filled.{last_row, Filled, Searched, FirstRow, NextRow};
 ghost use Rattle.search.specs.Reaches.{all_turned};
 ghost use Rattle.search.specs.Rows.{lone, gathered, best, stirs, last_from, RoundBefore};
@@ -33,8 +33,8 @@ fn fill<R: Reckoning>(
     cells: &mut [Option<R::Label>],
 ) -> usize
     requires { 4096 ≤ length cells.old }
-    ensures last { result ≡ last_from (R.good by.now) (R.goes by.now) (all_turned direction reaches.now) (λ u. get_or cells.old u None) 63 0 }
-    ensures rows { (k v : ℕ) → k ≤ result → v < 64 → slice_index_or cells.new (64 * k + v) None ≡ best (R.good by.now) (R.goes by.now) (all_turned direction reaches.now) (λ u. get_or cells.old u None) k v }
+    ensures last { result ≡ last_from (R.good by.now) (R.goes by.now) (all_turned direction reaches.now) (λ u. slice_index_or cells.old u None) 63 0 }
+    ensures rows { (k v : ℕ) → k ≤ result → v < 64 → slice_index_or cells.new (64 * k + v) None ≡ best (R.good by.now) (R.goes by.now) (all_turned direction reaches.now) (λ u. slice_index_or cells.old u None) k v }
     ensures above { (j : ℕ) → 64 * result + 64 ≤ j → slice_index_or cells.new j None ≡ slice_index_or cells.old j None }
 {
     let mut last = 0;
@@ -89,10 +89,10 @@ fn step<R: Reckoning>(
     k: usize,
 ) -> bool
     requires { (0 < k) × ((k < 64) × (4096 ≤ length cells.old)) }
-    ensures row { RoundBefore (R.good by.now) (R.goes by.now) (all_turned direction reaches.now) cells.old k → (v : ℕ) → v < 64 → slice_index_or cells.new (64 * k + v) None ≡ gathered (R.good by.now) (R.goes by.now) (all_turned direction reaches.now) (λ u. get_or cells.old (64 * (k - 1) + u) None) v (slice_index_or cells.old (64 * (k - 1) + v) None) }
+    ensures row { RoundBefore (R.good by.now) (R.goes by.now) (all_turned direction reaches.now) cells.old k → (v : ℕ) → v < 64 → slice_index_or cells.new (64 * k + v) None ≡ gathered (R.good by.now) (R.goes by.now) (all_turned direction reaches.now) (λ u. slice_index_or cells.old (64 * (k - 1) + u) None) v (slice_index_or cells.old (64 * (k - 1) + v) None) }
     ensures below { (j : ℕ) → j < 64 * k → slice_index_or cells.new j None ≡ slice_index_or cells.old j None }
     ensures above { (j : ℕ) → 64 * k + 64 ≤ j → slice_index_or cells.new j None ≡ slice_index_or cells.old j None }
-    ensures told { RoundBefore (R.good by.now) (R.goes by.now) (all_turned direction reaches.now) cells.old k → result ≡ stirs (R.good by.now) (R.goes by.now) (all_turned direction reaches.now) (λ u. get_or cells.old (64 * (k - 1) + u) None) }
+    ensures told { RoundBefore (R.good by.now) (R.goes by.now) (all_turned direction reaches.now) cells.old k → result ≡ stirs (R.good by.now) (R.goes by.now) (all_turned direction reaches.now) (λ u. slice_index_or cells.old (64 * (k - 1) + u) None) }
 {
     carry(cells, 64 * (k - 1), 64 * k);
     pass(by, direction, reaches, cells, k)
