@@ -3,12 +3,10 @@ use Rattle.std.proofs.Common.{◌≡◌, ℕ, ◌+◌, ◌-◌, ◌*◌, ◌/◌
 use native.Mathlib.Nat.{add-mod_right, mul-mod_left, mod-le}
 use Rattle.std.proofs.lemmas.Nat.{div-add-mod', mod-mul-add, mod_below}
 use Rattle.std.proofs.lemmas.Bool.{cases_Bool, cases_lt, leb-true, leb-false, cond_both, and_parts, and_cases}
-use Rattle.books.specs.Meaning.{first_open, last_open}
-use Rattle.books.specs.Records.{sound_gate}
-use Rattle.books.specs.Tides.{tide_faults, tide_opens, tidal_exits, next_start, tide_first, last_start, tide_last}
-use Rattle.books.specs.TideLaws.{TideFine, tide_open, tide_opens_at, sound_tide, tidal_takes, tidal_ends}
+use Rattle.books.specs.Extremes.{Least, Greatest}
+use Rattle.books.specs.Tides.{tide_opens, next_start, tide_first, last_start, tide_last}
+use Rattle.books.specs.TideLaws.{TideFine, tide_open, tide_opens_at}
 use Rattle.books.specs.declared.tides.Tide.{Tide}
-use Rattle.books.proofs.Extremes.{Least, Greatest, first_lacks, first_none, first_some, last_lacks, last_none, last_some}
 
 -- ---- remainders
 on_in_turn : (b d q : ℕ) → b % q + d < q → (b + d) % q ≡ b % q + d
@@ -62,7 +60,7 @@ module _ (d : Tide) (fine : TideFine d) where
             open_where (base + (d.period - r)) (omega arith) (omega (arith, sym (ap (λ (m : ℕ). m % d.period) f) ∙ next_turn b d.period lt)) by,
       ))
 
-  tide_least : (t : ℕ) → Least (tide_opens d) t (tide_first d t)
+  pub tide_least : (t : ℕ) → Least (tide_opens d) t (tide_first d t)
   tide_least t =
       let s = next_start d (max t d.phase) in
       cond_both (leb d.passage d.length && leb (s + d.passage) 20160) (Some s) None (Least (tide_opens d) t)
@@ -104,7 +102,7 @@ module _ (d : Tide) (fine : TideFine d) where
             omega arith),
       ))
 
-  tide_greatest : (t : ℕ) → Greatest (tide_opens d) d.passage t (tide_last d t)
+  pub tide_greatest : (t : ℕ) → Greatest (tide_opens d) d.passage t (tide_last d t)
   tide_greatest t =
       let end = min t 20160 in
       let top = end - d.passage in
@@ -120,39 +118,3 @@ module _ (d : Tide) (fine : TideFine d) where
       (λ long. omega (arith, leb-false d.passage d.length long))
       (λ out. omega (arith, leb-false (d.phase + d.passage) end out))
       (and_cases (leb d.passage d.length) (leb (d.phase + d.passage) end) n)))
-
--- ---- the answers
-module _ (ds : List Tide) (g t : ℕ) where
-  abbrev at : ℕ → Option Tide
-  at = sound_gate tide_faults ds
-
-  abbrev minutes : Tide → ℕ
-  minutes d = d.passage
-
-  abbrev opens : ℕ → Tide → ℕ → Bool
-  opens g = tide_opens
-
-  pub tidal_first_lacks : at g ≡ None → None ≡ first_open (tidal_exits ds g) t
-  tidal_first_lacks = first_lacks minutes opens at (tidal_takes ds) (tidal_ends ds) g t
-
-  pub tidal_last_lacks : at g ≡ None → None ≡ last_open (tidal_exits ds g) t
-  tidal_last_lacks = last_lacks minutes opens at (tidal_takes ds) (tidal_ends ds) g t
-
-  module _ (d : Tide) (found : at g ≡ Some d) where
-    least : (r : Option ℕ) → r ≡ tide_first d t → Least (tide_opens d) t r
-    least r is = subst (Least (tide_opens d) t) (sym is) (tide_least d (sound_tide ds g d found) t)
-
-    greatest : (r : Option ℕ) → r ≡ tide_last d t → Greatest (tide_opens d) d.passage t r
-    greatest r is = subst (Greatest (tide_opens d) d.passage t) (sym is) (tide_greatest d (sound_tide ds g d found) t)
-
-    pub tidal_first_none : None ≡ tide_first d t → None ≡ first_open (tidal_exits ds g) t
-    tidal_first_none is = first_none minutes opens at (tidal_takes ds) (tidal_ends ds) g t d found (least None is)
-
-    pub tidal_first_some : (s : ℕ) → Some s ≡ tide_first d t → Some (s, s + d.passage) ≡ first_open (tidal_exits ds g) t
-    tidal_first_some s is = first_some minutes opens at (tidal_takes ds) (tidal_ends ds) g t d found s (least (Some s) is)
-
-    pub tidal_last_none : None ≡ tide_last d t → None ≡ last_open (tidal_exits ds g) t
-    tidal_last_none is = last_none minutes opens at (tidal_takes ds) (tidal_ends ds) g t d found (greatest None is)
-
-    pub tidal_last_some : (s : ℕ) → Some s ≡ tide_last d t → Some (s, s + d.passage) ≡ last_open (tidal_exits ds g) t
-    tidal_last_some s is = last_some minutes opens at (tidal_takes ds) (tidal_ends ds) g t d found s (greatest (Some s) is)

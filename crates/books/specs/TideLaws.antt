@@ -53,6 +53,9 @@ tide_opens_at d s o =
     and_from (nat_le d.phase s) (nat_le ((s - d.phase) % d.period + d.passage) d.length && nat_le (s + d.passage) 20160) (le-leb d.phase s o.come)
     (and_from (nat_le ((s - d.phase) % d.period + d.passage) d.length) (nat_le (s + d.passage) 20160) (le-leb ((s - d.phase) % d.period + d.passage) d.length o.fits) (le-leb (s + d.passage) 20160 o.ends))
 
+pub tide_ends : (d : Tide) (s : ℕ) → tide_opens d s ≡ true → s + d.passage ≤ 20160
+tide_ends d s h = (tide_open d s h).ends
+
 -- ---- the laws
 module _ (ds : List Tide) where
   pub sound_tide : (g : ℕ) (d : Tide) → sound_gate tide_faults ds g ≡ Some d → TideFine d
@@ -61,11 +64,8 @@ module _ (ds : List Tide) where
   pub tidal_takes : (g : ℕ) (d : Tide) → sound_gate tide_faults ds g ≡ Some d → 1 ≤ d.passage
   tidal_takes g d h = (sound_tide g d h).some
 
-  pub tidal_ends : (g : ℕ) (d : Tide) (s : ℕ) → tide_opens d s ≡ true → s + d.passage ≤ 20160
-  tidal_ends g d s h = (tide_open d s h).ends
-
   pub tidal_lawful : Lawful (listed ds) (tidal_exits ds)
-  tidal_lawful = exits_by_lawful (λ d. d.passage) (λ g. tide_opens) (sound_gate tide_faults ds) tidal_takes tidal_ends (listed ds) (omega arith) (sound_gate_lacks tide_faults ds)
+  tidal_lawful = exits_by_lawful (λ d. d.passage) (λ g. tide_opens) (sound_gate tide_faults ds) tidal_takes (λ g. tide_ends) (listed ds) (omega arith) (sound_gate_lacks tide_faults ds)
 
   -- ---- the rule
   tidal_only : (g s e : ℕ) → tidal_exits ds g s ≡ Some e → TidalPassage ds g s e
