@@ -1,7 +1,8 @@
 -- Lemmas: the first fault of a record and of a list of records.
-use Rattle.std.proofs.Common.{◌≡◌, ℕ, suc, ◌+◌, ◌<◌, ◌≤◌, true, false, ltb, List, [], ◌∷◌, ◌++◌, map, length, get_or, take, drop, Some, None, Option, sym, refl, ap, ◌∙◌, subst, ⊎_elim, add-one, arith, take_all}
+use Rattle.std.proofs.Common.{◌≡◌, ℕ, suc, Bool, ◌+◌, ◌<◌, ◌≤◌, true, false, ltb, List, [], ◌∷◌, ◌++◌, map, length, get_or, take, drop, Some, None, Option, sym, refl, ap, ◌∙◌, subst, ⊎_elim, add-one, arith, take_all}
 use Rattle.std.specs.List.{slice_get}
-use Rattle.std.specs.Option.{option_map, option_or}
+use Rattle.std.specs.Bool.{then_some}
+use Rattle.std.specs.Option.{MatchOption, option_map, option_or}
 use Rattle.std.proofs.lemmas.Bool.{cases_lt, cond-true, cond-false, lt-ltb, le-ltb}
 use Rattle.std.proofs.lemmas.List.{drop_more, drop_all}
 use Rattle.books.specs.Told.{Told}
@@ -114,3 +115,20 @@ module _ {X : Type 0} (xs ys : List X) where
 
   pub head_of_second : (o : Option X) → None ≡ head xs → o ≡ head ys → o ≡ head (xs ++ ys)
   head_of_second o none h = h ∙ ap (λ (p : Option X). option_or p (head ys)) none ∙ sym (head_append xs ys)
+
+-- ---- what is read of the first that there is
+pub head_or : {A X : Type 0} (read : A → X) (xs ys : List X) (a b : Option A) → option_map read a ≡ head xs → option_map read b ≡ head ys → option_map read (option_or a b) ≡ head (xs ++ ys)
+head_or read [] ys None b e f = f
+head_or read (x ∷ xs) ys None b e f = none_not_some None x refl e
+head_or read [] ys (Some a) b e f = none_not_some None (read a) refl (sym e)
+head_or read (x ∷ xs) ys (Some a) b e f = e
+
+pub head_or_else : {A X : Type 0} (read : A → X) (xs ys : List X) (a r : Option A) {Rest : Type 0} → option_map read a ≡ head xs → MatchOption a Rest (λ x. r ≡ Some x) → (Rest → option_map read r ≡ head ys) → option_map read r ≡ head (xs ++ ys)
+head_or_else read [] ys None r e m rest = rest m
+head_or_else read (x ∷ xs) ys None r e m rest = none_not_some None x refl e
+head_or_else read [] ys (Some a) r e m rest = none_not_some None (read a) refl (sym e)
+head_or_else read (x ∷ xs) ys (Some a) r e m rest = ap (option_map read) m ∙ e
+
+pub head_when : {A X : Type 0} (read : A → X) (b : Bool) (a : A) → option_map read (then_some b a) ≡ head (when b (read a) [])
+head_when read true a = refl
+head_when read false a = refl

@@ -56,22 +56,22 @@ pub fn gate_record<R: Record + Copy>(entries: &[R], gate: Gate) -> Option<R>
 pub fn first_fault<R: Record>(list: RecordList, records: &[R], gates: Gate) -> Option<Finding>
     ensures { told result ≡ head (in_list (list_word list) (faults_from (R.Record.faults gates) 0 records.now)) }
 {
-    records.iter().enumerate().find_map(|(place, record)| {
-        record
-            .fault(gates)
-            .map(|fault| Finding { list, place, fault })
-    })
+    for (place, record) in records.iter().enumerate() {
+        if let Some(fault) = record.fault(gates) {
+            return Some(Finding { list, place, fault });
+        }
+    }
+    None
 }
 
 // The first fault of a list of gate records.
 pub fn gate_list_fault<R: Record>(list: RecordList, entries: &[R]) -> Option<Finding>
     ensures { told result ≡ head (gate_list_faults (list_word list) (R.Record.faults (listed entries.now)) entries.now) }
 {
-    let too_many = Finding {
+    let too_many = (entries.len() > MOST_LISTED).then_some(Finding {
         list,
         place: MOST_LISTED,
         fault: Fault::TooManyGates,
-    };
-    first_fault(list, gates(entries), gate_count(entries))
-        .or_else(|| (entries.len() > MOST_LISTED).then_some(too_many))
+    });
+    first_fault(list, gates(entries), gate_count(entries)).or(too_many)
 }

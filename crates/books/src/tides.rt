@@ -70,10 +70,10 @@ impl Record for Tide {
     ghost faults = { tide_faults };
 
     fn fault(&self, gates: Gate) -> Option<Fault> {
-        self.passage.fault(gates).or_else(|| {
-            (self.period == 0 || self.length > self.period || self.phase > LAST_INSTANT)
-                .then_some(Fault::TideTurn)
-        })
+        let bad_turn =
+            self.period == 0 || self.length > self.period || self.phase > LAST_INSTANT;
+        let turn = bad_turn.then_some(Fault::TideTurn);
+        self.passage.fault(gates).or(turn)
     }
 }
 

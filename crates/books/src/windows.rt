@@ -56,8 +56,9 @@ impl<'a> WindowBook<'a> {
     pub fn check(&self) -> Option<Finding>
         ensures { told result ≡ head (timed_faults self.now.passages.now self.now.windows.now) }
     {
+        let gates = self.count();
         gate_list_fault(RecordList::Timed, self.passages)
-            .or_else(|| first_fault(RecordList::Windows, self.windows, self.count()))
+            .or_else(|| first_fault(RecordList::Windows, self.windows, gates))
     }
 
     // The gate with that number.
