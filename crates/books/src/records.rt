@@ -56,12 +56,11 @@ pub fn gate_record<R: Record + Copy>(entries: &[R], gate: Gate) -> Option<R>
 pub fn first_fault<R: Record>(list: RecordList, records: &[R], gates: Gate) -> Option<Finding>
     ensures { told result ≡ head (in_list (list_word list) (faults_from (R.Record.faults gates) 0 records.now)) }
 {
-    for (place, record) in records.iter().enumerate() {
-        if let Some(fault) = record.fault(gates) {
-            return Some(Finding { list, place, fault });
-        }
-    }
-    None
+    records.iter().enumerate().find_map(|(place, record)| {
+        record
+            .fault(gates)
+            .map(|fault| Finding { list, place, fault })
+    })
 }
 
 // The first fault of a list of gate records.

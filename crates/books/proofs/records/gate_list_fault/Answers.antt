@@ -1,4 +1,4 @@
-use Rattle.std.proofs.Common.{◌≡◌, nat_lt, [], length, take, rules, sym, ap, ◌∙◌}
+use Rattle.std.proofs.Common.{◌≡◌, ℕ, nat_lt, List, [], length, take, rules, sym, ap, ◌∙◌}
 use Rattle.std.proofs.lemmas.List.{map-append}
 use Rattle.books.specs.Told.{list_word, finding_told, told}
 use Rattle.books.specs.Faults.{listed, when, head, faults_from, in_list}
@@ -10,9 +10,9 @@ returns g c =
     let rs = c.args.entries.now in
     let word = list_word c.args.list in
     let of_gates = faults_from (g.R.Record.faults (listed rs)) 0 (take 256 rs) in
-    let excess = when (nat_lt 256 (length rs)) (256, 12) [] in
+    let excess : List (ℕ × ℕ) = when (nat_lt 256 (length rs)) (256, 12) [] in
     let first : told c.first_fault.result ≡ head (in_list word of_gates) = cc (take_listed rs) in
     let too_many : told c.then_some-too_many.result ≡ head (in_list word excess) = search rules in
-    ap told c.or.ensures
-    ∙ head_or finding_told (in_list word of_gates) (in_list word excess) c.first_fault.result c.then_some-too_many.result first too_many
-    ∙ sym (ap head (map-append (λ p. (word, p.0, p.1)) of_gates excess))
+    rw c.or.ensures
+    (head_or (in_list word of_gates) (in_list word excess) finding_told c.first_fault.result c.then_some-too_many.result first too_many
+    ∙ sym (ap head (map-append (λ p. (word, p.0, p.1)) of_gates excess)))

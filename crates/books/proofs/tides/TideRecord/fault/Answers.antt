@@ -9,4 +9,4 @@ pub returns : goal.returns
 returns c =
     let tide = c.args.self.now in
     let turn : numbered c.then_some-turn.result ≡ head (turn_faults tide) = search rules in
-    ap numbered c.or.ensures ∙ head_or fault_number (passage_faults c.args.gates tide.passage) (turn_faults tide) c.fault.result c.then_some-turn.result c.fault.ensures turn
+    ap numbered c.or.ensures ∙ head_or (passage_faults c.args.gates tide.passage) (turn_faults tide) fault_number c.fault.result c.then_some-turn.result c.fault.ensures turn
