@@ -1,14 +1,15 @@
 -- Lemmas: the first fault of a record, and of a list of records.
-use Rattle.std.proofs.Common.{◌≡◌, ℕ, zero, suc, ◌+◌, ◌<◌, List, [], ◌∷◌, ◌++◌, map, length, slice_index_or, take, Some, None, Option, sym, refl, ap, ◌∙◌, ⊎_elim, arith, take_all}
+use Rattle.std.proofs.Common.{◌≡◌, ℕ, zero, suc, ◌+◌, ◌<◌, nat_lt, List, [], ◌∷◌, ◌++◌, map, length, slice_index_or, take, Some, None, Option, sym, refl, ap, ◌∙◌, ⊎_elim, arith, take_all}
 use Rattle.std.specs.Option.{MatchOption, option_map, option_or}
 use Rattle.std.proofs.lemmas.Bool.{cases_lt}
-use Rattle.books.specs.Told.{fault_number, list_word, told}
+use Rattle.std.proofs.lemmas.List.{map-append}
+use Rattle.books.specs.Told.{fault_number, list_word, finding_told, told}
 use Rattle.books.specs.Options.{none_not_some}
-use Rattle.books.specs.Faults.{listed, head, faults_from, in_list}
+use Rattle.books.specs.Faults.{listed, when, head, faults_from, in_list, gate_list_faults}
 use Rattle.books.specs.declared.faults.Finding.{Finding}
 use Rattle.books.specs.declared.faults.RecordList.{RecordList}
 
-pub take_listed : {R : Type 0} (rs : List R) → take (listed rs) rs ≡ take 256 rs
+take_listed : {R : Type 0} (rs : List R) → take (listed rs) rs ≡ take 256 rs
 take_listed rs =
     ⊎_elim
     (λ lt. let e : listed rs ≡ length rs = omega arith in ap (λ (n : ℕ). take n rs) e ∙ take_all (length rs) rs (omega arith) ∙ sym (take_all 256 rs (omega arith)))
@@ -67,3 +68,11 @@ module _ {R : Type 0} (faults : R → List ℕ) where
   first_told list rs (Some y) h =
       ap (λ (l : RecordList). Some (list_word l, y.place, fault_number y.fault)) h.0
       ∙ told_of (list_word list) (faults_from faults 0 rs) (Some (y.place, fault_number y.fault)) (first_from 0 rs y.place y.place (fault_number y.fault) (omega arith) h.1 h.2 h.3)
+
+-- the first of a list of gate records is that of its gates, or else that it lists too many
+pub gate_list_told : {R : Type 0} (faults : R → List ℕ) (word : List ℕ) (rs : List R) (a b : Option Finding) → told a ≡ head (in_list word (faults_from faults 0 (take (listed rs) rs))) → told b ≡ head (in_list word (when (nat_lt 256 (length rs)) (256, 12) [])) → told (option_or a b) ≡ head (gate_list_faults word faults rs)
+gate_list_told faults word rs a b e f =
+    let of_gates = faults_from faults 0 (take 256 rs) in
+    let excess : List (ℕ × ℕ) = when (nat_lt 256 (length rs)) (256, 12) [] in
+    head_or (in_list word of_gates) (in_list word excess) finding_told a b (e ∙ ap (λ l. head (in_list word (faults_from faults 0 l))) (take_listed rs)) f
+    ∙ sym (ap head (map-append (λ p. (word, p.0, p.1)) of_gates excess))

@@ -70,8 +70,7 @@ impl Record for Tide {
     ghost faults = { tide_faults };
 
     fn fault(&self, gates: Gate) -> Option<Fault> {
-        let bad_turn =
-            self.period == 0 || self.length > self.period || self.phase > LAST_INSTANT;
+        let bad_turn = self.period == 0 || self.length > self.period || self.phase > LAST_INSTANT;
         let turn = bad_turn.then_some(Fault::TideTurn);
         self.passage.fault(gates).or(turn)
     }

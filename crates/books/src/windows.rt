@@ -57,8 +57,11 @@ impl<'a> WindowBook<'a> {
         ensures { told result ≡ head (timed_faults self.now.passages.now self.now.windows.now) }
     {
         let gates = self.count();
-        gate_list_fault(RecordList::Timed, self.passages)
-            .or_else(|| first_fault(RecordList::Windows, self.windows, gates))
+        gate_list_fault(RecordList::Timed, self.passages).or_else(|| first_fault(
+            RecordList::Windows,
+            self.windows,
+            gates,
+        ))
     }
 
     // The gate with that number.
@@ -125,7 +128,11 @@ impl TimedGate<'_> {
             && window.end <= LAST_INSTANT
             && window.begin <= exit
             && self.passage <= exit - window.begin;
-        if held { Some(exit - self.passage) } else { None }
+        if held {
+            Some(exit - self.passage)
+        } else {
+            None
+        }
     }
 }
 

@@ -15,5 +15,5 @@ returns c =
     let ws = gate.book.windows.now in
     let n = listed gate.book.passages.now in
     let picked : c.min.result ≡ reduce min (filter_map (window_first gate.number gate.passage c.args.t) ws) =
-        sym (option_map_id _) ∙ min_from_yields_List _ _ c.min.ensures.ran (YieldsList-from_filter_map _ (window_first gate.number gate.passage c.args.t) (YieldsList-from_slice ws cc) c.filter_map.ensures.closure (λ x r q k. search (rules, tests))) in
+    sym (option_map_id _) ∙ min_from_yields_List c.filter_map.result c.min.result c.min.ensures.ran (YieldsList-from_filter_map _ (window_first gate.number gate.passage c.args.t) (YieldsList-from_slice ws cc) c.filter_map.ensures.closure (λ x r q k. search (rules, tests))) in
     subst (Least (held n ws gate.number gate.passage) c.args.t) (sym picked) (windows_least n gate.number gate.passage c.args.t c.requires ws)

@@ -15,5 +15,5 @@ returns c =
     let ws = gate.book.windows.now in
     let n = listed gate.book.passages.now in
     let picked : c.max.result ≡ reduce max (filter_map (window_last gate.number gate.passage c.args.t) ws) =
-        sym (option_map_id _) ∙ max_from_yields_List _ _ c.max.ensures.ran (YieldsList-from_filter_map _ (window_last gate.number gate.passage c.args.t) (YieldsList-from_slice ws cc) c.filter_map.ensures.closure (λ x r q k. search (rules, tests))) in
+    sym (option_map_id _) ∙ max_from_yields_List c.filter_map.result c.max.result c.max.ensures.ran (YieldsList-from_filter_map _ (window_last gate.number gate.passage c.args.t) (YieldsList-from_slice ws cc) c.filter_map.ensures.closure (λ x r q k. search (rules, tests))) in
     subst (Greatest (held n ws gate.number gate.passage) gate.passage c.args.t) (sym picked) (windows_greatest n gate.number gate.passage c.args.t c.requires ws)
