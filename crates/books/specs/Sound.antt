@@ -5,6 +5,7 @@ use Rattle.std.proofs.Common.{sym, ap, subst, ◌∙◌, ⊎_elim, arith}
 use Rattle.std.specs.List.{slice_get}
 use Rattle.std.proofs.lemmas.Option.{slice_get_past}
 use Rattle.std.proofs.lemmas.Bool.{cases_Bool, cases_lt, eqb-false, cond-true, cond-false, ltb-true, ltb-false, lt-ltb, le-ltb, ne_eqb, or_parts, or_from, and_parts, and_from, not-true, not_from_false}
+use Rattle.std.proofs.lemmas.Bool.Decides.{nat_tests}
 use Rattle.books.specs.Options.{none_not_some, some_one}
 use Rattle.books.specs.Faults.{listed, when, faultless, passage_faults}
 use Rattle.books.specs.Records.{sound_only, sound_gate}
@@ -13,18 +14,11 @@ pub faultless_when : (b : Bool) (n : ℕ) (ns : List ℕ) → faultless (when b 
 faultless_when true n ns = refl
 faultless_when false n ns = refl
 
-pub positive : (n : ℕ) → (n == 0) ≡ false → 1 ≤ n
-positive n h = ⊎_elim (λ lt. absurd (eqb-false n 0 h (omega arith))) (λ ge. ge) (cases_lt n 1)
-
 pub passage_fine : (n p : ℕ) → faultless (passage_faults n p) ≡ true → (1 ≤ p) × (p ≤ 20160)
-passage_fine n p h =
-    let both = or_parts (p == 0) (nat_lt 20160 p) (not-true (p == 0 || nat_lt 20160 p) (and_parts (not (p == 0 || nat_lt 20160 p)) true (sym (faultless_when (p == 0 || nat_lt 20160 p) 13 []) ∙ h)).0) in
-    (positive p both.0, ltb-false 20160 p both.1)
+passage_fine n p h = let e = faultless_when (p == 0 || nat_lt 20160 p) 13 [] in (grind (arith, nat_tests), grind (arith, nat_tests))
 
 pub passage_none : (n p : ℕ) → 1 ≤ p → p ≤ 20160 → faultless (passage_faults n p) ≡ true
-passage_none n p some within =
-    faultless_when (p == 0 || nat_lt 20160 p) 13 []
-    ∙ and_from (not (p == 0 || nat_lt 20160 p)) true (not_from_false (p == 0 || nat_lt 20160 p) (or_from (p == 0) (nat_lt 20160 p) (ne_eqb p 0 (λ z. omega arith)) (le-ltb 20160 p within))) refl
+passage_none n p some within = let e = faultless_when (p == 0 || nat_lt 20160 p) 13 [] in grind (arith, nat_tests)
 
 pub faultless_both : (ms ns : List ℕ) → faultless (ms ++ ns) ≡ (faultless ms && faultless ns)
 faultless_both [] ns = refl

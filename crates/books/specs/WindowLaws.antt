@@ -4,6 +4,7 @@ use Rattle.std.specs.Prelude.{◌≡◌, ℕ, zero, suc, ◌+◌, ◌<◌, ◌�
 use Rattle.std.proofs.Common.{sym, ap, subst, ◌∙◌, ⊎_elim, arith}
 use Rattle.std.specs.List.{slice_get}
 use Rattle.std.proofs.lemmas.Bool.{leb-true, leb-false, le-leb, lt-leb, ltb-false, le-ltb, eqb-true, eq-eqb, or_cases, or_parts, or_from, or_left, or_right, and_parts, and_from, not-true, not_from_false}
+use Rattle.std.proofs.lemmas.Bool.Decides.{nat_tests}
 use Rattle.books.specs.Meaning.{Lawful, Means}
 use Rattle.books.specs.Options.{none_not_some, some_one}
 use Rattle.books.specs.Faults.{listed, when, faultless, passage_faults}
@@ -29,16 +30,11 @@ pub record WindowFine (n : ℕ) (w : Window) : Type 0 where
 
 pub window_fine : (n : ℕ) (w : Window) → faultless (window_faults n w) ≡ true → WindowFine n w
 window_fine n w h =
-    let bad = nat_lt w.end w.begin || nat_lt 20160 w.end in
-    let two = and_parts (not (nat_le n w.gate)) (not bad) (sym (window_test n w) ∙ h) in
-    let span = or_parts (nat_lt w.end w.begin) (nat_lt 20160 w.end) (not-true bad two.1) in
-    record { gate = leb-false n w.gate (not-true (nat_le n w.gate) two.0); ordered = ltb-false w.end w.begin span.0; in_time = ltb-false 20160 w.end span.1 }
+    let e = window_test n w in
+    record { gate = grind (arith, nat_tests); ordered = grind (arith, nat_tests); in_time = grind (arith, nat_tests) }
 
 window_none : (n : ℕ) (w : Window) → WindowFine n w → faultless (window_faults n w) ≡ true
-window_none n w f =
-    let bad = nat_lt w.end w.begin || nat_lt 20160 w.end in
-    window_test n w
-    ∙ and_from (not (nat_le n w.gate)) (not bad) (not_from_false (nat_le n w.gate) (lt-leb n w.gate f.gate)) (not_from_false bad (or_from (nat_lt w.end w.begin) (nat_lt 20160 w.end) (le-ltb w.end w.begin f.ordered) (le-ltb 20160 w.end f.in_time)))
+window_none n w f = let e = window_test n w in grind (arith, nat_tests, f.gate, f.ordered, f.in_time)
 
 -- ---- the window that holds a passage
 pub record Held (n : ℕ) (ws : List Window) (g p s : ℕ) : Type 0 where
