@@ -3,6 +3,7 @@ use Rattle.std.proofs.Common.{◌≡◌, ℕ, ◌+◌, ◌-◌, ◌*◌, ◌/◌
 use native.Mathlib.Nat.{add-mod_right, mul-mod_left, mod-le}
 use Rattle.std.proofs.lemmas.Nat.{div-add-mod', mod-mul-add, mod_below}
 use Rattle.std.proofs.lemmas.Bool.{cases_Bool, cases_lt, leb-true, leb-false, cond_both, and_parts, and_cases}
+use Rattle.std.proofs.lemmas.Bool.Decides.{nat_tests}
 use Rattle.books.specs.Extremes.{Least, Greatest}
 use Rattle.books.specs.Tides.{tide_opens}
 use Rattle.books.specs.TideLaws.{TideFine, tide_open, tide_opens_at}
@@ -71,18 +72,13 @@ module _ (d : Tide) (fine : TideFine d) where
   tide_least t =
       let s = next_start (max t d.phase) in
       cond_both (leb d.passage d.length && leb (s + d.passage) 20160) (Some s) None (Least (tide_opens d) t)
-      (λ y. let a : d.passage ≤ d.length = leb-true d.passage d.length (and_parts (leb d.passage d.length) (leb (s + d.passage) 20160) y).0 in
-      let b : s + d.passage ≤ 20160 = leb-true (s + d.passage) 20160 (and_parts (leb d.passage d.length) (leb (s + d.passage) 20160) y).1 in
-      let st = starts t a in
-      (st.0, st.2 b, st.1))
-      (λ n k lo.
-      ⊎_elim
-      (λ long. shut_where k (λ p q z. omega (arith, leb-false d.passage d.length long)))
-      (λ out. ⊎_elim
-      (λ tall. shut_where k (λ p q z. omega arith))
-      (λ low. let st = starts t low in ⊎_elim (λ lt. st.1 k lo lt) (λ ge. shut_where k (λ p q z. omega (arith, leb-false (s + d.passage) 20160 out))) (cases_lt k s))
-      (cases_lt d.length d.passage))
-      (and_cases (leb d.passage d.length) (leb (s + d.passage) 20160) n))
+      (λ y. let st = starts t (grind (arith, nat_tests)) in (st.0, st.2 (grind (arith, nat_tests)), st.1))
+      (λ n k lo. shut_where k (λ p q z.
+      let st = starts t (omega arith) in
+      let lt : k < s = grind (arith, nat_tests) in
+      let shut = st.1 k lo lt in
+      let opened = open_where k p q z in
+      cc))
 
   -- and backwards, from the last instant that comes out in time, if it is too late in its turn
   pub tide_greatest : (t top gap : ℕ) → top + d.passage ≡ min t 20160 → d.phase ≤ top → d.passage ≤ d.length → (top - d.phase) % d.period + d.passage ≡ d.length + gap → Greatest (tide_opens d) d.passage t (Some (top - gap))

@@ -3,7 +3,7 @@
 use Rattle.std.specs.Prelude.{◌≡◌, ℕ, ◌<◌, ◌≤◌, Bool, true, false, cond, not, ◌&&◌, ◌||◌, List, [], ◌∷◌, ◌++◌, length, Some, None, Option, ◌==◌, nat_lt, refl}
 use Rattle.std.proofs.Common.{sym, ap, subst, ◌∙◌, ⊎_elim, arith}
 use Rattle.std.specs.List.{slice_get}
-use Rattle.std.proofs.lemmas.Option.{slice_get_past}
+use Rattle.std.proofs.lemmas.Option.{slice_get_past, cond_some}
 use Rattle.std.proofs.lemmas.Bool.{cases_Bool, cases_lt, eqb-false, cond-true, cond-false, ltb-true, ltb-false, lt-ltb, le-ltb, ne_eqb, or_parts, or_from, and_parts, and_from, not-true, not_from_false}
 use Rattle.std.proofs.lemmas.Bool.Decides.{nat_tests}
 use Rattle.books.specs.Options.{none_not_some, some_one}
@@ -36,11 +36,8 @@ pub record SoundGate {R : Type 0} (faults : ℕ → R → List ℕ) (rs : List R
 sound_only_is : {R : Type 0} (faults : R → List ℕ) (o : Option R) (r : R) → sound_only faults o ≡ Some r → (o ≡ Some r) × (faultless (faults r) ≡ true)
 sound_only_is faults None r h = none_not_some None r refl h
 sound_only_is {R} faults (Some r') r h =
-    ⊎_elim
-    (λ y. let same : r' ≡ r = some_one (Some r') r' r refl (sym (cond-true (faultless (faults r')) (Some r') None y) ∙ h) in
-    (ap Some same, subst (λ (x : R). faultless (faults x) ≡ true) same y))
-    (λ n. none_not_some (cond (faultless (faults r')) (Some r') None) r (cond-false (faultless (faults r')) (Some r') None n) h)
-    (cases_Bool (faultless (faults r')))
+    let p = cond_some (faultless (faults r')) r' r h in
+    (ap Some p.1, subst (λ (x : R). faultless (faults x) ≡ true) p.1 p.0)
 
 module _ {R : Type 0} (faults : ℕ → R → List ℕ) (rs : List R) (g : ℕ) where
   pub gate_sound_only : (r : R) → sound_gate faults rs g ≡ Some r → SoundGate faults rs g r

@@ -50,10 +50,7 @@ pub held_by : (n : ℕ) (ws : List Window) (g p s : ℕ) → held n ws g p s ≡
 held_by n [] g p s h = let z : ◌≡◌ {A = ℕ} 0 1 = cc in absurd (omega arith)
 held_by n (w ∷ ws) g p s h =
     ⊎_elim
-    (λ y. let two = and_parts (faultless (window_faults n w)) (holds g p s w) y in
-    let its = and_parts (w.gate == g) (nat_le w.begin s && nat_le (s + p) w.end) two.1 in
-    let span = and_parts (nat_le w.begin s) (nat_le (s + p) w.end) its.1 in
-    record { place = 0; window = w; at = refl; its_gate = eqb-true w.gate g its.0; fine = window_fine n w two.0; opened = leb-true w.begin s span.0; closes = leb-true (s + p) w.end span.1 })
+    (λ y. record { place = 0; window = w; at = refl; its_gate = grind (arith, nat_tests); fine = window_fine n w (grind (arith, nat_tests)); opened = grind (arith, nat_tests); closes = grind (arith, nat_tests) })
     (λ y. let r = held_by n ws g p s y in
     record { place = suc r.place; window = r.window; at = r.at; its_gate = r.its_gate; fine = r.fine; opened = r.opened; closes = r.closes })
     (or_cases (faultless (window_faults n w) && holds g p s w) (held n ws g p s) h)
@@ -62,11 +59,8 @@ held_at : (n : ℕ) (ws : List Window) (g p s i : ℕ) (w : Window) → slice_ge
 held_at n [] g p s i w at its fine opened closes = none_not_some None w refl at
 held_at n (v ∷ ws) g p s zero w at its fine opened closes =
     let same : v ≡ w = some_one (Some v) v w refl at in
-    or_left (faultless (window_faults n v) && holds g p s v) (held n ws g p s)
-    (subst (λ (u : Window). (faultless (window_faults n u) && holds g p s u) ≡ true) (sym same)
-    (and_from (faultless (window_faults n w)) (holds g p s w) (window_none n w fine)
-    (and_from (w.gate == g) (nat_le w.begin s && nat_le (s + p) w.end) (eq-eqb w.gate g its)
-    (and_from (nat_le w.begin s) (nat_le (s + p) w.end) (le-leb w.begin s opened) (le-leb (s + p) w.end closes)))))
+    let sound = window_none n w fine in
+    or_left (faultless (window_faults n v) && holds g p s v) (held n ws g p s) (rw same (grind (arith, nat_tests)))
 held_at n (v ∷ ws) g p s (suc i) w at its fine opened closes =
     or_right (faultless (window_faults n v) && holds g p s v) (held n ws g p s) (held_at n ws g p s i w at its fine opened closes)
 

@@ -112,10 +112,8 @@ impl TimedGate<'_> {
         ensures { result ≡ window_first self.now.number self.now.passage t window.now }
     {
         let entry = window.begin.max(t);
-        let held = window.gate == self.number
-            && window.end <= LAST_INSTANT
-            && entry <= window.end
-            && self.passage <= window.end - entry;
+        let exit = entry.checked_add(self.passage)?;
+        let held = window.gate == self.number && exit <= window.end && window.end <= LAST_INSTANT;
         held.then_some(entry)
     }
 
@@ -124,15 +122,11 @@ impl TimedGate<'_> {
         ensures { result ≡ window_last self.now.number self.now.passage t window.now }
     {
         let exit = window.end.min(t);
+        let entry = exit.checked_sub(self.passage)?;
         let held = window.gate == self.number
-            && window.end <= LAST_INSTANT
-            && window.begin <= exit
-            && self.passage <= exit - window.begin;
-        if held {
-            Some(exit - self.passage)
-        } else {
-            None
-        }
+            && window.begin <= entry
+            && window.end <= LAST_INSTANT;
+        held.then_some(entry)
     }
 }
 
