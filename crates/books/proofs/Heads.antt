@@ -4,7 +4,6 @@ use Rattle.std.specs.Option.{MatchOption, option_map, option_or}
 use Rattle.std.proofs.lemmas.Bool.{cases_lt}
 use Rattle.std.proofs.lemmas.List.{map-append}
 use Rattle.books.specs.Told.{fault_number, list_word, finding_told, told}
-use Rattle.books.specs.Options.{none_not_some}
 use Rattle.books.specs.Faults.{listed, when, head, faults_from, in_list, gate_list_faults}
 use Rattle.books.specs.declared.faults.Finding.{Finding}
 use Rattle.books.specs.declared.faults.RecordList.{RecordList}

@@ -1,9 +1,8 @@
 -- Lemmas: the reckoned start of a tide's passage is the least, and the greatest, at which it is open.
-use Rattle.std.proofs.Common.{◌≡◌, ℕ, ◌+◌, ◌-◌, ◌*◌, ◌/◌, ◌%◌, ◌<◌, ◌≤◌, min, max, Bool, true, false, cond, ◌&&◌, leb, Some, None, Option, sym, ap, ◌∙◌, subst, ⊎_elim, arith}
+use Rattle.std.proofs.Common.{◌≡◌, ℕ, ◌+◌, ◌-◌, ◌*◌, ◌/◌, ◌%◌, ◌<◌, ◌≤◌, min, max, true, false, cond, leb, Some, None, Option, sym, ap, ◌∙◌, ⊎_elim, arith}
 use native.Mathlib.Nat.{add-mod_right, mul-mod_left, mod-le}
 use Rattle.std.proofs.lemmas.Nat.{div-add-mod', mod-mul-add, mod_below}
-use Rattle.std.proofs.lemmas.Bool.{cases_Bool, cases_lt, leb-true, leb-false, cond_both, and_parts, and_cases}
-use Rattle.std.proofs.lemmas.Bool.Decides.{nat_tests}
+use Rattle.std.proofs.lemmas.Bool.{cases_Bool, cases_lt, leb-true, leb-false, cond_both}
 use Rattle.books.specs.Extremes.{Least, Greatest}
 use Rattle.books.specs.Tides.{tide_opens}
 use Rattle.books.specs.TideLaws.{TideFine, tide_open, tide_opens_at}
@@ -38,10 +37,10 @@ module _ (d : Tide) (fine : TideFine d) where
 
   -- the start of the first passage from an instant on that is not before the phase
   abbrev next_start : ℕ → ℕ
-  next_start base = let r = (base - d.phase) % d.period in cond (leb (r + d.passage) d.length) base (base + (d.period - r))
+  next_start base = let r = (base - d.phase) % d.period in cond (leb r (d.length - d.passage)) base (base + (d.period - r))
 
   abbrev pub tide_first : ℕ → Option ℕ
-  tide_first t = let s = next_start (max t d.phase) in cond (leb d.passage d.length && leb (s + d.passage) 20160) (Some s) None
+  tide_first t = let s = next_start (max t d.phase) in cond (leb (s + d.passage) 20160) (Some s) None
 
   -- a start is no earlier than asked, none before it is open, and it is open if it comes out in time
   abbrev Starts : ℕ → ℕ → Type 0
@@ -53,10 +52,10 @@ module _ (d : Tide) (fine : TideFine d) where
       let b = base - d.phase in
       let r = b % d.period in
       let lt = below_turn b in
-      cond_both (leb (r + d.passage) d.length) base (base + (d.period - r)) (Starts t)
-      (λ y. let in_time = leb-true (r + d.passage) d.length y in
-      (omega arith, (λ k lo hi. shut_where k (λ p q z. omega arith)), λ by. open_where base (omega arith) in_time by))
-      (λ n. let late = leb-false (r + d.passage) d.length n in (
+      cond_both (leb r (d.length - d.passage)) base (base + (d.period - r)) (Starts t)
+      (λ y. let in_time = leb-true r (d.length - d.passage) y in
+      (omega arith, (λ k lo hi. shut_where k (λ p q z. omega arith)), λ by. open_where base (omega arith) (omega arith) by))
+      (λ n. let late = leb-false r (d.length - d.passage) n in (
         omega arith,
         (λ k lo hi. shut_where k (λ p q z.
             ⊎_elim (λ low. omega arith)
@@ -68,20 +67,20 @@ module _ (d : Tide) (fine : TideFine d) where
             open_where (base + (d.period - r)) (omega arith) (omega (arith, sym (ap (λ (m : ℕ). m % d.period) f) ∙ next_turn b d.period lt)) by,
       ))
 
-  pub tide_least : (t : ℕ) → Least (tide_opens d) t (tide_first t)
-  tide_least t =
+  pub tide_least : (t : ℕ) → d.passage ≤ d.length → Least (tide_opens d) t (tide_first t)
+  tide_least t le =
       let s = next_start (max t d.phase) in
-      cond_both (leb d.passage d.length && leb (s + d.passage) 20160) (Some s) None (Least (tide_opens d) t)
-      (λ y. let st = starts t (grind (arith, nat_tests)) in (st.0, st.2 (grind (arith, nat_tests)), st.1))
+      let st = starts t le in
+      cond_both (leb (s + d.passage) 20160) (Some s) None (Least (tide_opens d) t)
+      (λ y. (st.0, st.2 (leb-true (s + d.passage) 20160 y), st.1))
       (λ n k lo. shut_where k (λ p q z.
-      let st = starts t (omega arith) in
-      let lt : k < s = grind (arith, nat_tests) in
-      let shut = st.1 k lo lt in
+      let late = leb-false (s + d.passage) 20160 n in
+      let shut = st.1 k lo (omega arith) in
       let opened = open_where k p q z in
       cc))
 
-  -- and backwards, from the last instant that comes out in time, if it is too late in its turn
-  pub tide_greatest : (t top gap : ℕ) → top + d.passage ≡ min t 20160 → d.phase ≤ top → d.passage ≤ d.length → (top - d.phase) % d.period + d.passage ≡ d.length + gap → Greatest (tide_opens d) d.passage t (Some (top - gap))
+  -- and backwards, from the last instant that comes out in time
+  pub tide_greatest : (t top gap : ℕ) → top + d.passage ≡ min t 20160 → d.phase ≤ top → d.passage ≤ d.length → gap ≡ (top - d.phase) % d.period - (d.length - d.passage) → Greatest (tide_opens d) d.passage t (Some (top - gap))
   tide_greatest t top gap by from le late =
       let b = top - d.phase in
       let lt = below_turn b in

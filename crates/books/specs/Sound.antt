@@ -1,12 +1,12 @@
 -- Lemmas: what a record without a fault keeps to, and when a gate has a sound record.
 -- Nothing here is a definition that a contract cites.
-use Rattle.std.specs.Prelude.{◌≡◌, ℕ, ◌<◌, ◌≤◌, Bool, true, false, cond, not, ◌&&◌, ◌||◌, List, [], ◌∷◌, ◌++◌, length, Some, None, Option, ◌==◌, nat_lt, refl}
+use Rattle.std.specs.Prelude.{◌≡◌, ℕ, ◌<◌, ◌≤◌, Bool, true, false, not, ◌&&◌, ◌||◌, List, [], ◌∷◌, ◌++◌, length, Some, None, Option, ◌==◌, nat_lt, refl}
 use Rattle.std.proofs.Common.{sym, ap, subst, ◌∙◌, ⊎_elim, arith}
 use Rattle.std.specs.List.{slice_get}
 use Rattle.std.proofs.lemmas.Option.{slice_get_past, cond_some}
-use Rattle.std.proofs.lemmas.Bool.{cases_Bool, cases_lt, eqb-false, cond-true, cond-false, ltb-true, ltb-false, lt-ltb, le-ltb, ne_eqb, or_parts, or_from, and_parts, and_from, not-true, not_from_false}
+use Rattle.std.proofs.lemmas.Bool.{cases_Bool, cases_lt, cond-true, cond-false, ltb-true, lt-ltb, le-ltb}
 use Rattle.std.proofs.lemmas.Bool.Decides.{nat_tests}
-use Rattle.books.specs.Options.{none_not_some, some_one}
+use Rattle.books.specs.Options.{none_not_some}
 use Rattle.books.specs.Faults.{listed, when, faultless, passage_faults}
 use Rattle.books.specs.Records.{sound_only, sound_gate}
 

@@ -1,13 +1,12 @@
 -- Lemmas: a tide book keeps the laws, and means what its rule says.
 -- Nothing here is a definition that a contract cites.
-use Rattle.std.specs.Prelude.{◌≡◌, ℕ, ◌+◌, ◌-◌, ◌%◌, ◌≤◌, Bool, true, not, ◌&&◌, ◌||◌, List, [], Some, ◌==◌, nat_le, nat_lt, refl}
+use Rattle.std.specs.Prelude.{◌≡◌, ℕ, ◌+◌, ◌-◌, ◌%◌, ◌≤◌, Bool, true, not, ◌&&◌, ◌||◌, List, [], Some, ◌==◌, nat_lt, refl}
 use Rattle.std.proofs.Common.{sym, ap, ◌∙◌, arith}
-use Rattle.std.proofs.lemmas.Bool.{leb-true, le-leb, ltb-false, le-ltb, ne_eqb, or_parts, or_from, and_parts, and_from, not-true, not_from_false}
 use Rattle.std.proofs.lemmas.Bool.Decides.{nat_tests}
 use Rattle.books.specs.Meaning.{Lawful, Means}
 use Rattle.books.specs.Faults.{listed, faultless, passage_faults}
 use Rattle.books.specs.Records.{sound_gate, exits_by_lawful, passed, exit_open}
-use Rattle.books.specs.Sound.{faultless_when, faultless_both, passage_fine, passage_none, listed_gate, gate_sound_only, sound_gate_all, sound_gate_lacks}
+use Rattle.books.specs.Sound.{faultless_when, faultless_both, listed_gate, gate_sound_only, sound_gate_all, sound_gate_lacks}
 use Rattle.books.specs.Tides.{turn_faults, tide_faults, tide_opens, tidal_exits, TidalPassage}
 use Rattle.books.specs.declared.tides.Tide.{Tide}
 

@@ -35,34 +35,25 @@ impl GateRule for Tide {
     }
 
     fn first_entry(&self, t: Instant) -> Option<Instant> {
-        let passage = u32::from(self.passage);
+        let slack = self.length.checked_sub(self.passage)?;
         let base = t.max(self.phase);
         let turned = (base - self.phase) % self.period;
-        let start = if u32::from(turned) + passage <= u32::from(self.length) {
-            u32::from(base)
+        let start = if turned <= slack {
+            base
         } else {
-            u32::from(base) + u32::from(self.period - turned)
+            base.checked_add(self.period - turned)?
         };
-        if self.passage <= self.length && start + passage <= u32::from(LAST_INSTANT) {
-            Some(start as Instant)
-        } else {
-            None
-        }
+        let exit = start.checked_add(self.passage)?;
+        (exit <= LAST_INSTANT).then_some(start)
     }
 
     fn last_entry(&self, t: Instant) -> Option<Instant> {
+        let slack = self.length.checked_sub(self.passage)?;
         let exit = t.min(LAST_INSTANT);
-        if self.passage > self.length || self.phase > exit || self.passage > exit - self.phase {
-            return None;
-        }
-        let top = exit - self.passage;
-        let turned = (top - self.phase) % self.period;
-        let slack = self.length - self.passage;
-        if turned <= slack {
-            Some(top)
-        } else {
-            Some(top - (turned - slack))
-        }
+        let top = exit.checked_sub(self.passage)?;
+        let since = top.checked_sub(self.phase)?;
+        let turned = since % self.period;
+        Some(top - turned.saturating_sub(slack))
     }
 }
 

@@ -1,4 +1,4 @@
-use Rattle.std.proofs.Common.{ℕ, Option, None, ap, ◌∙◌}
+use Rattle.std.proofs.Common.{Option, ap, ◌∙◌}
 use Rattle.books.specs.Meaning.{last_open}
 use Rattle.books.specs.Records.{exit_by}
 use Rattle.books.specs.Tides.{tide_opens}

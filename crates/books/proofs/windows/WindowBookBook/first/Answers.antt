@@ -1,4 +1,4 @@
-use Rattle.std.proofs.Common.{ℕ, Option, None, sym, ap, ◌∙◌}
+use Rattle.std.proofs.Common.{ℕ, Option, ap, ◌∙◌}
 use Rattle.books.specs.Meaning.{first_open}
 use Rattle.books.proofs.Extremes.{no_first}
 use Rattle.books.proofs.windows.WindowBookBook.first.Goals as goal
