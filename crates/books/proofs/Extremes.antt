@@ -1,81 +1,75 @@
--- Lemmas: the least and the greatest instant at which a test holds, and the answers of a book of records from them.
-use Rattle.std.proofs.Common.{◌≡◌, ℕ, ◌+◌, ◌<◌, ◌≤◌, min, max, Bool, true, false, ◌||◌, Some, None, Option, sym, ◌∙◌, subst, ⊎_elim, arith}
-use Rattle.std.proofs.lemmas.Bool.{cases_lt, or_from, or_left, or_right}
+-- Lemmas: the best instant of two tests, and the passages of a gate from its best entries.
+use Rattle.std.proofs.Common.{◌≡◌, ℕ, ◌+◌, ◌<◌, ◌≤◌, Bool, true, false, cond, ◌||◌, ◌⊎◌, Some, None, Option, refl, sym, subst, ⊎_elim, arith}
+use Rattle.std.specs.Option.{option_map}
+use Rattle.std.proofs.lemmas.Option.{cond_some}
+use Rattle.std.proofs.lemmas.Bool.{cases_lt, cond-true, cond-false, or_from, or_left, or_right}
 use Rattle.books.specs.Meaning.{first_open, last_open}
+use Rattle.books.specs.Extremes.{Best, Least, Greatest}
 use Rattle.books.specs.Options.{none_not_some}
 use Rattle.books.specs.Scans.{InTime, first_is, last_is}
-use Rattle.books.specs.Records.{exits_by, passed, exit_open, exit_shut, exit_lacks, same_record}
-use Rattle.books.specs.Windows.{earlier_of, later_of}
-
--- the least instant from t on at which the test holds
-abbrev pub Least : (ℕ → Bool) → ℕ → Option ℕ → Type 0
-Least o t None = (k : ℕ) → t ≤ k → o k ≡ false
-Least o t (Some s) = (t ≤ s) × (o s ≡ true) × ((k : ℕ) → t ≤ k → k < s → o k ≡ false)
-
--- the greatest at which it holds, p minutes before t or earlier
-abbrev pub Greatest : (ℕ → Bool) → ℕ → ℕ → Option ℕ → Type 0
-Greatest o p t None = (k : ℕ) → k + p ≤ t → o k ≡ false
-Greatest o p t (Some s) = (s + p ≤ t) × (o s ≡ true) × ((k : ℕ) → k + p ≤ t → s < k → o k ≡ false)
 
 -- ---- of two tests
-pub least_either : (o q : ℕ → Bool) (t : ℕ) (a b : Option ℕ) → Least o t a → Least q t b → Least (λ k. o k || q k) t (earlier_of a b)
-least_either o q t None None h j = λ k lo. or_from (o k) (q k) (h k lo) (j k lo)
-least_either o q t None (Some b) h j = (j.0, or_right (o b) (q b) j.1, λ k lo hi. or_from (o k) (q k) (h k lo) (j.2 k lo hi))
-least_either o q t (Some a) None h j = (h.0, or_left (o a) (q a) h.1, λ k lo hi. or_from (o k) (q k) (h.2 k lo hi) (j k lo))
-least_either o q t (Some a) (Some b) h j =
-    let P : ℕ → Type 0 = λ m. Least (λ k. o k || q k) t (Some m) in
+abbrev pub picked : (ℕ → ℕ → ℕ) → Option ℕ → Option ℕ → Option ℕ
+picked pick None b = b
+picked pick (Some a) None = Some a
+picked pick (Some a) (Some b) = Some (pick a b)
+
+-- it picks one of the two, and what beats the one beats the other
+abbrev pub Picks : (ℕ → ℕ → ℕ) → (ℕ → ℕ → Type 0) → Type 0
+Picks pick Beats = (a b : ℕ) → ((pick a b ≡ a) × ((k : ℕ) → Beats k a → Beats k b)) ⊎ ((pick a b ≡ b) × ((k : ℕ) → Beats k b → Beats k a))
+
+pub best_either : (pick : ℕ → ℕ → ℕ) (Reach : ℕ → Type 0) (Beats : ℕ → ℕ → Type 0) → Picks pick Beats → (o q : ℕ → Bool) (a b : Option ℕ) → Best o Reach Beats a → Best q Reach Beats b → Best (λ k. o k || q k) Reach Beats (picked pick a b)
+best_either pick Reach Beats picks o q None None h j = λ k in_reach. or_from (o k) (q k) (h k in_reach) (j k in_reach)
+best_either pick Reach Beats picks o q None (Some b) h j = (j.0, or_right (o b) (q b) j.1, λ k in_reach beats. or_from (o k) (q k) (h k in_reach) (j.2 k in_reach beats))
+best_either pick Reach Beats picks o q (Some a) None h j = (h.0, or_left (o a) (q a) h.1, λ k in_reach beats. or_from (o k) (q k) (h.2 k in_reach beats) (j k in_reach))
+best_either pick Reach Beats picks o q (Some a) (Some b) h j =
+    let P : ℕ → Type 0 = λ m. Best (λ k. o k || q k) Reach Beats (Some m) in
     ⊎_elim
-    (λ lt. let e : a ≡ min a b = omega arith in subst P e (h.0, or_left (o a) (q a) h.1, λ k lo hi. or_from (o k) (q k) (h.2 k lo hi) (j.2 k lo (omega arith))))
-    (λ ge. let e : b ≡ min a b = omega arith in subst P e (j.0, or_right (o b) (q b) j.1, λ k lo hi. or_from (o k) (q k) (h.2 k lo (omega arith)) (j.2 k lo hi)))
-    (cases_lt a b)
+    (λ p. subst P (sym p.0) (h.0, or_left (o a) (q a) h.1, λ k in_reach beats. or_from (o k) (q k) (h.2 k in_reach beats) (j.2 k in_reach (p.1 k beats))))
+    (λ p. subst P (sym p.0) (j.0, or_right (o b) (q b) j.1, λ k in_reach beats. or_from (o k) (q k) (h.2 k in_reach (p.1 k beats)) (j.2 k in_reach beats)))
+    (picks a b)
 
-pub greatest_either : (o q : ℕ → Bool) (p t : ℕ) (a b : Option ℕ) → Greatest o p t a → Greatest q p t b → Greatest (λ k. o k || q k) p t (later_of a b)
-greatest_either o q p t None None h j = λ k lo. or_from (o k) (q k) (h k lo) (j k lo)
-greatest_either o q p t None (Some b) h j = (j.0, or_right (o b) (q b) j.1, λ k lo hi. or_from (o k) (q k) (h k lo) (j.2 k lo hi))
-greatest_either o q p t (Some a) None h j = (h.0, or_left (o a) (q a) h.1, λ k lo hi. or_from (o k) (q k) (h.2 k lo hi) (j k lo))
-greatest_either o q p t (Some a) (Some b) h j =
-    let P : ℕ → Type 0 = λ m. Greatest (λ k. o k || q k) p t (Some m) in
-    ⊎_elim
-    (λ lt. let e : b ≡ max a b = omega arith in subst P e (j.0, or_right (o b) (q b) j.1, λ k lo hi. or_from (o k) (q k) (h.2 k lo (omega arith)) (j.2 k lo hi)))
-    (λ ge. let e : a ≡ max a b = omega arith in subst P e (h.0, or_left (o a) (q a) h.1, λ k lo hi. or_from (o k) (q k) (h.2 k lo hi) (j.2 k lo (omega arith))))
-    (cases_lt a b)
+-- ---- a gate where a passage takes so many minutes, and that opens where the test holds
+module _ (minutes : ℕ) (opens : ℕ → Bool) (ends : (s : ℕ) → opens s ≡ true → s + minutes ≤ 20160) (t : ℕ) where
+  abbrev exits : ℕ → Option ℕ
+  exits s = cond (opens s) (Some (s + minutes)) None
 
--- ---- of a test that answers the same
-pub least_same : (o q : ℕ → Bool) (t : ℕ) (a : Option ℕ) → ((k : ℕ) → o k ≡ q k) → Least o t a → Least q t a
-least_same o q t None e h = λ k lo. sym (e k) ∙ h k lo
-least_same o q t (Some s) e h = (h.0, sym (e s) ∙ h.1, λ k lo hi. sym (e k) ∙ h.2 k lo hi)
+  opened : (k e : ℕ) → exits k ≡ Some e → (opens k ≡ true) × (k + minutes ≡ e)
+  opened k e h = cond_some (opens k) (k + minutes) e h
 
-pub greatest_same : (o q : ℕ → Bool) (p t : ℕ) (a : Option ℕ) → ((k : ℕ) → o k ≡ q k) → Greatest o p t a → Greatest q p t a
-greatest_same o q p t None e h = λ k lo. sym (e k) ∙ h k lo
-greatest_same o q p t (Some s) e h = (h.0, sym (e s) ∙ h.1, λ k lo hi. sym (e k) ∙ h.2 k lo hi)
+  open_at : (s : ℕ) → opens s ≡ true → exits s ≡ Some (s + minutes)
+  open_at s y = cond-true (opens s) (Some (s + minutes)) None y
 
--- ---- a book with one record for each gate
-module _ {R : Type 0} (passage : R → ℕ) (opens : ℕ → R → ℕ → Bool) (at : ℕ → Option R) (takes : (g : ℕ) (r : R) → at g ≡ Some r → 1 ≤ passage r) (ends : (g : ℕ) (r : R) (s : ℕ) → opens g r s ≡ true → s + passage r ≤ 20160) (g t : ℕ) where
-  timely : InTime (exits_by passage opens at g)
-  timely k e h = let p = passed passage opens at g k e h in omega (arith, ends g p.by k p.opened)
+  shut_at : (s : ℕ) → opens s ≡ false → exits s ≡ None
+  shut_at s n = cond-false (opens s) (Some (s + minutes)) None n
 
-  pub first_lacks : at g ≡ None → None ≡ first_open (exits_by passage opens at g) t
-  first_lacks none = first_is (exits_by passage opens at g) timely t None (λ k lo. exit_lacks passage opens at g k none)
+  timely : InTime exits
+  timely k e h = omega (arith, ends k (opened k e h).0)
 
-  pub last_lacks : at g ≡ None → None ≡ last_open (exits_by passage opens at g) t
-  last_lacks none = last_is (exits_by passage opens at g) timely t None (λ k e so. none_not_some (exits_by passage opens at g k) e (exit_lacks passage opens at g k none) so)
+  -- what comes out by t entered in time for it
+  late : (k e : ℕ) → exits k ≡ Some e → (k + minutes ≤ t → opens k ≡ false) → t < e
+  late k e so shut =
+      let p = opened k e so in
+      ⊎_elim (λ lt. lt) (λ ge. let n = shut (omega (arith, p.1)) in let y = p.0 in absurd (cc)) (cases_lt t e)
 
-  module _ (r : R) (found : at g ≡ Some r) where
-    pub first_none : Least (opens g r) t None → None ≡ first_open (exits_by passage opens at g) t
-    first_none h = first_is (exits_by passage opens at g) timely t None (λ k lo. exit_shut passage opens at g k r found (h k lo))
+  pub first_passage_is : (r : Option ℕ) → Least opens t r → option_map (λ s. (s, s + minutes)) r ≡ first_open exits t
+  first_passage_is None h = first_is exits timely t None (λ k lo. shut_at k (h k lo))
+  first_passage_is (Some s) h = first_is exits timely t (Some (s, s + minutes)) (h.0, open_at s h.1, λ k lo hi. shut_at k (h.2 k lo hi))
 
-    pub first_some : (s : ℕ) → Least (opens g r) t (Some s) → Some (s, s + passage r) ≡ first_open (exits_by passage opens at g) t
-    first_some s h = first_is (exits_by passage opens at g) timely t (Some (s, s + passage r)) (h.0, exit_open passage opens at g s r found h.1, λ k lo hi. exit_shut passage opens at g k r found (h.2 k lo hi))
+  pub last_passage_is : (r : Option ℕ) → Greatest opens minutes t r → option_map (λ s. (s, s + minutes)) r ≡ last_open exits t
+  last_passage_is None h = last_is exits timely t None (λ k e so. late k e so (h k))
+  last_passage_is (Some s) h = last_is exits timely t (Some (s, s + minutes)) (h.0, open_at s h.1, λ k e lo so. late k e so (λ by. h.2 k by lo))
 
-    -- what comes out by t entered in time for it
-    late : (k e : ℕ) → exits_by passage opens at g k ≡ Some e → (k + passage r ≤ t → opens g r k ≡ false) → t < e
-    late k e so shut =
-        let p = passed passage opens at g k e so in
-        let same = same_record passage opens at g p.by r p.found found in
-        ⊎_elim (λ lt. lt) (λ ge. none_not_some (exits_by passage opens at g k) e (exit_shut passage opens at g k r found (shut (omega (arith, p.out)))) so) (cases_lt t e)
+-- ---- no gate
+module _ (t : ℕ) where
+  abbrev shut : ℕ → Option ℕ
+  shut s = None
 
-    pub last_none : Greatest (opens g r) (passage r) t None → None ≡ last_open (exits_by passage opens at g) t
-    last_none h = last_is (exits_by passage opens at g) timely t None (λ k e so. late k e so (h k))
+  never : InTime shut
+  never k e h = none_not_some None e refl h
 
-    pub last_some : (s : ℕ) → Greatest (opens g r) (passage r) t (Some s) → Some (s, s + passage r) ≡ last_open (exits_by passage opens at g) t
-    last_some s h = last_is (exits_by passage opens at g) timely t (Some (s, s + passage r)) (h.0, exit_open passage opens at g s r found h.1, λ k e lo so. late k e so (λ by. h.2 k by lo))
+  pub no_first : None ≡ first_open shut t
+  no_first = first_is shut never t None (λ k lo. refl)
+
+  pub no_last : None ≡ last_open shut t
+  no_last = last_is shut never t None (λ k e so. none_not_some None e refl so)

@@ -1,116 +1,77 @@
--- Lemmas: the first fault of a record and of a list of records.
-use Rattle.std.proofs.Common.{◌≡◌, ℕ, suc, ◌+◌, ◌<◌, ◌≤◌, true, false, ltb, List, [], ◌∷◌, ◌++◌, map, length, get_or, take, drop, Some, None, Option, sym, refl, ap, ◌∙◌, subst, ⊎_elim, add-one, arith, take_all}
-use Rattle.std.specs.List.{slice_get}
-use Rattle.std.specs.Option.{option_map, option_or}
-use Rattle.std.proofs.lemmas.Bool.{cases_lt, cond-true, cond-false, lt-ltb, le-ltb}
-use Rattle.std.proofs.lemmas.List.{drop_more, drop_all}
-use Rattle.books.specs.Told.{Told}
-use Rattle.books.specs.Options.{none_not_some}
-use Rattle.books.specs.Faults.{listed, when, head, faultless, faults_from, in_list, gate_list_faults}
-use Rattle.books.specs.Records.{sound_only, sound_gate}
+-- Lemmas: the first fault of a record, and of a list of records.
+use Rattle.std.proofs.Common.{◌≡◌, ℕ, zero, suc, ◌+◌, ◌<◌, nat_lt, List, [], ◌∷◌, ◌++◌, map, length, slice_index_or, take, Some, None, Option, sym, refl, ap, ◌∙◌, ⊎_elim, arith, take_all}
+use Rattle.std.specs.Option.{MatchOption, option_map, option_or}
+use Rattle.std.proofs.lemmas.Bool.{cases_lt}
+use Rattle.std.proofs.lemmas.List.{map-append}
+use Rattle.books.specs.Told.{fault_number, list_word, finding_told, told}
+use Rattle.books.specs.Faults.{listed, when, head, faults_from, in_list, gate_list_faults}
+use Rattle.books.specs.declared.faults.Finding.{Finding}
+use Rattle.books.specs.declared.faults.RecordList.{RecordList}
 
-pub none_faultless : (ns : List ℕ) → None ≡ head ns → faultless ns ≡ true
-none_faultless [] h = refl
-none_faultless (n ∷ ns) h = none_not_some (head (n ∷ ns)) n (sym h) refl
-
-pub some_faulty : (ns : List ℕ) (n : ℕ) → Some n ≡ head ns → faultless ns ≡ false
-some_faulty [] n h = none_not_some (head []) n refl (sym h)
-some_faulty (m ∷ ns) n h = refl
-
-pub head_map : {X Y : Type 0} (f : X → Y) (xs : List X) → head (map f xs) ≡ option_map f (head xs)
-head_map f [] = refl
-head_map f (x ∷ xs) = refl
-
-pub head_append : {X : Type 0} (xs ys : List X) → head (xs ++ ys) ≡ option_or (head xs) (head ys)
-head_append [] ys = refl
-head_append (x ∷ xs) ys = refl
-
--- ---- the record of a gate
-module _ {R : Type 0} (faults : ℕ → R → List ℕ) (rs : List R) (g n : ℕ) (r : R) (so : n ≡ listed rs) (among : g < n) (found : slice_get rs g ≡ Some r) where
-  one : sound_gate faults rs g ≡ sound_only (faults n) (Some r)
-  one =
-      cond-true (ltb g (listed rs)) (sound_only (faults (listed rs)) (slice_get rs g)) None (lt-ltb g (listed rs) (subst (λ (m : ℕ). g < m) so among))
-      ∙ ap (sound_only (faults (listed rs))) found
-      ∙ sym (ap (λ (m : ℕ). sound_only (faults m) (Some r)) so)
-
-  pub gate_sound : None ≡ head (faults n r) → Some r ≡ sound_gate faults rs g
-  gate_sound h = sym (one ∙ cond-true (faultless (faults n r)) (Some r) None (none_faultless (faults n r) h))
-
-  pub gate_faulty : (k : ℕ) → Some k ≡ head (faults n r) → None ≡ sound_gate faults rs g
-  gate_faulty k h = sym (one ∙ cond-false (faultless (faults n r)) (Some r) None (some_faulty (faults n r) k h))
-
--- ---- the first of the faults from a place on
-abbrev pub first_from : {R : Type 0} → (R → List ℕ) → ℕ → List R → Option (ℕ × ℕ)
-first_from faults i rs = head (faults_from faults i rs)
-
-first_here : {R : Type 0} (faults : R → List ℕ) (i : ℕ) (r : R) (rs : List R) → first_from faults i (r ∷ rs) ≡ option_or (option_map (λ n. (i, n)) (head (faults r))) (first_from faults (suc i) rs)
-first_here faults i r rs =
-    head_append (map (λ n. (i, n)) (faults r)) (faults_from faults (suc i) rs)
-    ∙ ap (λ (o : Option (ℕ × ℕ)). option_or o (first_from faults (suc i) rs)) (head_map (λ n. (i, n)) (faults r))
-
-module _ {R : Type 0} (faults : R → List ℕ) (rs : List R) (i : ℕ) (so : first_from faults i (drop i rs) ≡ first_from faults 0 rs) where
-  here : (d : R) → i < length rs → option_or (option_map (λ n. (i, n)) (head (faults (get_or rs i d)))) (first_from faults (suc i) (drop (i + 1) rs)) ≡ first_from faults 0 rs
-  here d h = sym (first_here faults i (get_or rs i d) (drop (i + 1) rs)) ∙ sym (ap (first_from faults i) (drop_more rs i d h)) ∙ so
-
-  pub first_again : (d : R) → i < length rs → None ≡ head (faults (get_or rs i d)) → first_from faults (i + 1) (drop (i + 1) rs) ≡ first_from faults 0 rs
-  first_again d h none =
-      ap (λ (j : ℕ). first_from faults j (drop (i + 1) rs)) (add-one i)
-      ∙ ap (λ (o : Option ℕ). option_or (option_map (λ n. (i, n)) o) (first_from faults (suc i) (drop (i + 1) rs))) none
-      ∙ here d h
-
-  pub first_found_here : (d : R) (n : ℕ) → i < length rs → Some n ≡ head (faults (get_or rs i d)) → Some (i, n) ≡ first_from faults 0 rs
-  first_found_here d n h some =
-      ap (λ (o : Option ℕ). option_or (option_map (λ n. (i, n)) o) (first_from faults (suc i) (drop (i + 1) rs))) some ∙ here d h
-
-  pub first_nowhere : length rs ≤ i → None ≡ first_from faults 0 rs
-  first_nowhere h = sym (ap (first_from faults i) (drop_all i rs h)) ∙ so
-
--- ---- as told of a list
-pub told_first : (word : List ℕ) (ps : List (ℕ × ℕ)) → head (in_list word ps) ≡ option_map (λ p. (word, p.0, p.1)) (head ps)
-told_first word ps = head_map (λ p. (word, p.0, p.1)) ps
-
-mapped_either : {X Y : Type 0} (f : X → Y) (a b : Option X) → option_map f (option_or a b) ≡ option_or (option_map f a) (option_map f b)
-mapped_either f None b = refl
-mapped_either f (Some x) b = refl
-
-pub take_listed : {R : Type 0} (rs : List R) → take (listed rs) rs ≡ take 256 rs
+take_listed : {R : Type 0} (rs : List R) → take (listed rs) rs ≡ take 256 rs
 take_listed rs =
     ⊎_elim
     (λ lt. let e : listed rs ≡ length rs = omega arith in ap (λ (n : ℕ). take n rs) e ∙ take_all (length rs) rs (omega arith) ∙ sym (take_all 256 rs (omega arith)))
     (λ ge. let e : listed rs ≡ 256 = omega arith in ap (λ (n : ℕ). take n rs) e)
     (cases_lt (length rs) 256)
 
--- the first fault of a list of gate records is that of its gates, or else that it lists too many
-module _ {R : Type 0} (word : List ℕ) (faults : ℕ → R → List ℕ) (rs : List R) (n m : ℕ) (so : n ≡ listed rs) (cut : m ≡ listed rs) where
-  abbrev excess : List (ℕ × ℕ)
-  excess = when (ltb 256 (length rs)) (256, 12) []
+head_map : {A X : Type 0} (read : A → X) (xs : List A) → head (map read xs) ≡ option_map read (head xs)
+head_map read [] = refl
+head_map read (x ∷ xs) = refl
 
-  pub gates_first : head (gate_list_faults word (faults (listed rs)) rs) ≡ option_or (head (in_list word (faults_from (faults n) 0 (take m rs)))) (head (in_list word excess))
-  gates_first =
-      told_first word (faults_from (faults (listed rs)) 0 (take 256 rs) ++ excess)
-      ∙ ap (option_map (λ (p : ℕ × ℕ). (word, p.0, p.1))) (head_append (faults_from (faults (listed rs)) 0 (take 256 rs)) excess)
-      ∙ mapped_either (λ (p : ℕ × ℕ). (word, p.0, p.1)) (first_from (faults (listed rs)) 0 (take 256 rs)) (head excess)
-      ∙ ap (λ (o : Option Told). option_or o (option_map (λ (p : ℕ × ℕ). (word, p.0, p.1)) (head excess))) (sym (told_first word (faults_from (faults (listed rs)) 0 (take 256 rs))))
-      ∙ ap (option_or (head (in_list word (faults_from (faults (listed rs)) 0 (take 256 rs))))) (sym (told_first word excess))
-      ∙ ap (λ (l : List R). option_or (head (in_list word (faults_from (faults (listed rs)) 0 l))) (head (in_list word excess))) (sym (ap (λ (k : ℕ). take k rs) cut ∙ take_listed rs))
-      ∙ sym (ap (λ (k : ℕ). option_or (head (in_list word (faults_from (faults k) 0 (take m rs)))) (head (in_list word excess))) so)
+-- ---- the first of two lists
+head_append : {X : Type 0} (xs ys : List X) → head (xs ++ ys) ≡ option_or (head xs) (head ys)
+head_append [] ys = refl
+head_append (x ∷ xs) ys = refl
 
-  pub gate_list_first : (f : Told) → Some f ≡ head (in_list word (faults_from (faults n) 0 (take m rs))) → Some f ≡ head (gate_list_faults word (faults (listed rs)) rs)
-  gate_list_first f h = ap (λ (o : Option Told). option_or o (head (in_list word excess))) h ∙ sym gates_first
-
-  gates_none : None ≡ head (in_list word (faults_from (faults n) 0 (take m rs))) → head (in_list word excess) ≡ head (gate_list_faults word (faults (listed rs)) rs)
-  gates_none h = ap (λ (o : Option Told). option_or o (head (in_list word excess))) h ∙ sym gates_first
-
-  pub gate_list_excess : None ≡ head (in_list word (faults_from (faults n) 0 (take m rs))) → 256 < length rs → Some (word, 256, 12) ≡ head (gate_list_faults word (faults (listed rs)) rs)
-  gate_list_excess h more = sym (ap (λ (l : List (ℕ × ℕ)). head (in_list word l)) (cond-true (ltb 256 (length rs)) ((256, 12) ∷ []) [] (lt-ltb 256 (length rs) more))) ∙ gates_none h
-
-  pub gate_list_clear : None ≡ head (in_list word (faults_from (faults n) 0 (take m rs))) → length rs ≤ 256 → None ≡ head (gate_list_faults word (faults (listed rs)) rs)
-  gate_list_clear h few = sym (ap (λ (l : List (ℕ × ℕ)). head (in_list word l)) (cond-false (ltb 256 (length rs)) ((256, 12) ∷ []) [] (le-ltb 256 (length rs) few))) ∙ gates_none h
-
--- ---- the first of two lists of faults, one after the other
 module _ {X : Type 0} (xs ys : List X) where
-  pub head_of_first : (x : X) → Some x ≡ head xs → Some x ≡ head (xs ++ ys)
-  head_of_first x h = ap (λ (o : Option X). option_or o (head ys)) h ∙ sym (head_append xs ys)
+  joined : (o : Option X) → o ≡ head xs → option_or o (head ys) ≡ head (xs ++ ys)
+  joined o e = ap (λ (o : Option X). option_or o (head ys)) e ∙ sym (head_append xs ys)
 
-  pub head_of_second : (o : Option X) → None ≡ head xs → o ≡ head ys → o ≡ head (xs ++ ys)
-  head_of_second o none h = h ∙ ap (λ (p : Option X). option_or p (head ys)) none ∙ sym (head_append xs ys)
+  module _ {A : Type 0} (read : A → X) where
+    pub head_or : (a b : Option A) → option_map read a ≡ head xs → option_map read b ≡ head ys → option_map read (option_or a b) ≡ head (xs ++ ys)
+    head_or None b e f = f ∙ joined None e
+    head_or (Some a) b e f = joined (Some (read a)) e
+
+    pub head_or_else : (a r : Option A) {Rest : Type 0} → option_map read a ≡ head xs → MatchOption a Rest (λ x. r ≡ Some x) → (Rest → option_map read r ≡ head ys) → option_map read r ≡ head (xs ++ ys)
+    head_or_else None r e m rest = rest m ∙ joined None e
+    head_or_else (Some a) r e m rest = ap (option_map read) m ∙ joined (Some (read a)) e
+
+-- ---- the first faulty record of a list
+module _ {R : Type 0} (faults : R → List ℕ) where
+  -- whether the record at place k has a fault, and the first one
+  abbrev pub HeadAt : List R → ℕ → Option ℕ → Type 0
+  HeadAt rs k o = (d : R) → o ≡ head (faults (slice_index_or rs k d))
+
+  here : (i : ℕ) (r : R) (rs : List R) (o : Option ℕ) → o ≡ head (faults r) → option_or (option_map (λ n. (i, n)) o) (head (faults_from faults (suc i) rs)) ≡ head (faults_from faults i (r ∷ rs))
+  here i r rs o e = joined (map (λ n. (i, n)) (faults r)) (faults_from faults (suc i) rs) (option_map (λ n. (i, n)) o) (ap (option_map (λ n. (i, n))) e ∙ sym (head_map (λ n. (i, n)) (faults r)))
+
+  none_from : (i : ℕ) (rs : List R) → ((k : ℕ) → k < length rs → HeadAt rs k None) → None ≡ head (faults_from faults i rs)
+  none_from i [] h = refl
+  none_from i (r ∷ rs) h = none_from (suc i) rs (λ k lt. h (suc k) (omega arith)) ∙ here i r rs None (h 0 (omega arith) r)
+
+  first_from : (i : ℕ) (rs : List R) (j k n : ℕ) → j ≡ i + k → k < length rs → HeadAt rs k (Some n) → ((l : ℕ) → l < k → HeadAt rs l None) → Some (j, n) ≡ head (faults_from faults i rs)
+  first_from i [] j k n at lt h before = absurd (omega arith)
+  first_from i (r ∷ rs) j zero n at lt h before = let e : j ≡ i = omega arith in ap (λ (m : ℕ). Some (m, n)) e ∙ here i r rs (Some n) (h r)
+  first_from i (r ∷ rs) j (suc k) n at lt h before = first_from (suc i) rs j k n (omega arith) (omega arith) h (λ l lo. before (suc l) (omega arith)) ∙ here i r rs None (before 0 (omega arith) r)
+
+  -- that is the first faulty record
+  abbrev pub IsFirst : RecordList → List R → Option Finding → Type 0
+  IsFirst list rs o = MatchOption o ((k : ℕ) → k < length rs → HeadAt rs k None) (λ y. (y.list ≡ list) × (y.place < length rs) × HeadAt rs y.place (Some (fault_number y.fault)) × ((k : ℕ) → k < y.place → HeadAt rs k None))
+
+  told_of : (word : List ℕ) (ps : List (ℕ × ℕ)) (o : Option (ℕ × ℕ)) → o ≡ head ps → option_map (λ p. (word, p.0, p.1)) o ≡ head (in_list word ps)
+  told_of word ps o e = ap (option_map (λ p. (word, p.0, p.1))) e ∙ sym (head_map (λ p. (word, p.0, p.1)) ps)
+
+  pub first_told : (list : RecordList) (rs : List R) (o : Option Finding) → IsFirst list rs o → told o ≡ head (in_list (list_word list) (faults_from faults 0 rs))
+  first_told list rs None h = told_of (list_word list) (faults_from faults 0 rs) None (none_from 0 rs h)
+  first_told list rs (Some y) h =
+      ap (λ (l : RecordList). Some (list_word l, y.place, fault_number y.fault)) h.0
+      ∙ told_of (list_word list) (faults_from faults 0 rs) (Some (y.place, fault_number y.fault)) (first_from 0 rs y.place y.place (fault_number y.fault) (omega arith) h.1 h.2 h.3)
+
+-- the first of a list of gate records is that of its gates, or else that it lists too many
+pub gate_list_told : {R : Type 0} (faults : R → List ℕ) (word : List ℕ) (rs : List R) (a b : Option Finding) → told a ≡ head (in_list word (faults_from faults 0 (take (listed rs) rs))) → told b ≡ head (in_list word (when (nat_lt 256 (length rs)) (256, 12) [])) → told (option_or a b) ≡ head (gate_list_faults word faults rs)
+gate_list_told faults word rs a b e f =
+    let of_gates = faults_from faults 0 (take 256 rs) in
+    let excess : List (ℕ × ℕ) = when (nat_lt 256 (length rs)) (256, 12) [] in
+    head_or (in_list word of_gates) (in_list word excess) finding_told a b (e ∙ ap (λ l. head (in_list word (faults_from faults 0 l))) (take_listed rs)) f
+    ∙ sym (ap head (map-append (λ p. (word, p.0, p.1)) of_gates excess))

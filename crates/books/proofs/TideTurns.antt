@@ -1,14 +1,12 @@
 -- Lemmas: the reckoned start of a tide's passage is the least, and the greatest, at which it is open.
-use Rattle.std.proofs.Common.{◌≡◌, ℕ, ◌+◌, ◌-◌, ◌*◌, ◌/◌, ◌%◌, ◌<◌, ◌≤◌, min, max, Bool, true, false, ◌&&◌, leb, List, Some, None, Option, sym, ap, ◌∙◌, subst, ⊎_elim, arith}
+use Rattle.std.proofs.Common.{◌≡◌, ℕ, ◌+◌, ◌-◌, ◌*◌, ◌/◌, ◌%◌, ◌<◌, ◌≤◌, min, max, true, false, cond, leb, Some, None, Option, sym, ap, ◌∙◌, ⊎_elim, arith}
 use native.Mathlib.Nat.{add-mod_right, mul-mod_left, mod-le}
 use Rattle.std.proofs.lemmas.Nat.{div-add-mod', mod-mul-add, mod_below}
-use Rattle.std.proofs.lemmas.Bool.{cases_Bool, cases_lt, leb-true, leb-false, cond_both, and_parts, and_cases}
-use Rattle.books.specs.Meaning.{first_open, last_open}
-use Rattle.books.specs.Records.{sound_gate}
-use Rattle.books.specs.Tides.{tide_faults, tide_opens, tidal_exits, next_start, tide_first, last_start, tide_last}
-use Rattle.books.specs.TideLaws.{TideFine, tide_open, tide_opens_at, sound_tide, tidal_takes, tidal_ends}
+use Rattle.std.proofs.lemmas.Bool.{cases_Bool, cases_lt, leb-true, leb-false, cond_both}
+use Rattle.books.specs.Extremes.{Least, Greatest}
+use Rattle.books.specs.Tides.{tide_opens}
+use Rattle.books.specs.TideLaws.{TideFine, tide_open, tide_opens_at}
 use Rattle.books.specs.declared.tides.Tide.{Tide}
-use Rattle.books.proofs.Extremes.{Least, Greatest, first_lacks, first_none, first_some, last_lacks, last_none, last_some}
 
 -- ---- remainders
 on_in_turn : (b d q : ℕ) → b % q + d < q → (b + d) % q ≡ b % q + d
@@ -37,20 +35,27 @@ module _ (d : Tide) (fine : TideFine d) where
   below_turn : (b : ℕ) → b % d.period < d.period
   below_turn b = mod_below b d.period (omega (arith, fine.turns))
 
+  -- the start of the first passage from an instant on that is not before the phase
+  abbrev next_start : ℕ → ℕ
+  next_start base = let r = (base - d.phase) % d.period in cond (leb r (d.length - d.passage)) base (base + (d.period - r))
+
+  abbrev pub tide_first : ℕ → Option ℕ
+  tide_first t = let s = next_start (max t d.phase) in cond (leb (s + d.passage) 20160) (Some s) None
+
   -- a start is no earlier than asked, none before it is open, and it is open if it comes out in time
   abbrev Starts : ℕ → ℕ → Type 0
   Starts t s = (t ≤ s) × ((k : ℕ) → t ≤ k → k < s → tide_opens d k ≡ false) × (s + d.passage ≤ 20160 → tide_opens d s ≡ true)
 
-  starts : (t : ℕ) → d.passage ≤ d.length → Starts t (next_start d (max t d.phase))
+  starts : (t : ℕ) → d.passage ≤ d.length → Starts t (next_start (max t d.phase))
   starts t le =
       let base = max t d.phase in
       let b = base - d.phase in
       let r = b % d.period in
       let lt = below_turn b in
-      cond_both (leb (r + d.passage) d.length) base (base + (d.period - r)) (Starts t)
-      (λ y. let in_time = leb-true (r + d.passage) d.length y in
-      (omega arith, (λ k lo hi. shut_where k (λ p q z. omega arith)), λ by. open_where base (omega arith) in_time by))
-      (λ n. let late = leb-false (r + d.passage) d.length n in (
+      cond_both (leb r (d.length - d.passage)) base (base + (d.period - r)) (Starts t)
+      (λ y. let in_time = leb-true r (d.length - d.passage) y in
+      (omega arith, (λ k lo hi. shut_where k (λ p q z. omega arith)), λ by. open_where base (omega arith) (omega arith) by))
+      (λ n. let late = leb-false r (d.length - d.passage) n in (
         omega arith,
         (λ k lo hi. shut_where k (λ p q z.
             ⊎_elim (λ low. omega arith)
@@ -62,97 +67,30 @@ module _ (d : Tide) (fine : TideFine d) where
             open_where (base + (d.period - r)) (omega arith) (omega (arith, sym (ap (λ (m : ℕ). m % d.period) f) ∙ next_turn b d.period lt)) by,
       ))
 
-  tide_least : (t : ℕ) → Least (tide_opens d) t (tide_first d t)
-  tide_least t =
-      let s = next_start d (max t d.phase) in
-      cond_both (leb d.passage d.length && leb (s + d.passage) 20160) (Some s) None (Least (tide_opens d) t)
-      (λ y. let a : d.passage ≤ d.length = leb-true d.passage d.length (and_parts (leb d.passage d.length) (leb (s + d.passage) 20160) y).0 in
-      let b : s + d.passage ≤ 20160 = leb-true (s + d.passage) 20160 (and_parts (leb d.passage d.length) (leb (s + d.passage) 20160) y).1 in
-      let st = starts t a in
-      (st.0, st.2 b, st.1))
-      (λ n k lo.
-      ⊎_elim
-      (λ long. shut_where k (λ p q z. omega (arith, leb-false d.passage d.length long)))
-      (λ out. ⊎_elim
-      (λ tall. shut_where k (λ p q z. omega arith))
-      (λ low. let st = starts t low in ⊎_elim (λ lt. st.1 k lo lt) (λ ge. shut_where k (λ p q z. omega (arith, leb-false (s + d.passage) 20160 out))) (cases_lt k s))
-      (cases_lt d.length d.passage))
-      (and_cases (leb d.passage d.length) (leb (s + d.passage) 20160) n))
+  pub tide_least : (t : ℕ) → d.passage ≤ d.length → Least (tide_opens d) t (tide_first t)
+  tide_least t le =
+      let s = next_start (max t d.phase) in
+      let st = starts t le in
+      cond_both (leb (s + d.passage) 20160) (Some s) None (Least (tide_opens d) t)
+      (λ y. (st.0, st.2 (leb-true (s + d.passage) 20160 y), st.1))
+      (λ n k lo. shut_where k (λ p q z.
+      let late = leb-false (s + d.passage) 20160 n in
+      let shut = st.1 k lo (omega arith) in
+      let opened = open_where k p q z in
+      cc))
 
-  -- and backwards: from the last instant that comes out in time
-  abbrev Lasts : ℕ → ℕ → Type 0
-  Lasts top s = (s ≤ top) × (tide_opens d s ≡ true) × ((k : ℕ) → s < k → k ≤ top → tide_opens d k ≡ false)
-
-  lasts : (top : ℕ) → d.passage ≤ d.length → d.phase ≤ top → top + d.passage ≤ 20160 → Lasts top (last_start d top)
-  lasts top le from by =
+  -- and backwards, from the last instant that comes out in time
+  pub tide_greatest : (t top gap : ℕ) → top + d.passage ≡ min t 20160 → d.phase ≤ top → d.passage ≤ d.length → gap ≡ (top - d.phase) % d.period - (d.length - d.passage) → Greatest (tide_opens d) d.passage t (Some (top - gap))
+  tide_greatest t top gap by from le late =
       let b = top - d.phase in
-      let r = b % d.period in
       let lt = below_turn b in
       let small = mod-le b d.period in
-      let gap = r + d.passage - d.length in
-      cond_both (leb (r + d.passage) d.length) top (top - gap) (Lasts top)
-      (λ y. let in_time = leb-true (r + d.passage) d.length y in
-      (omega arith, open_where top from in_time by, λ k lo hi. absurd (omega arith)))
-      (λ n. let late = leb-false (r + d.passage) d.length n in
       let f : b - gap ≡ top - gap - d.phase = omega arith in
       let e = sym (ap (λ (m : ℕ). m % d.period) f) ∙ back_in_turn b gap d.period (omega arith) lt in (
         omega arith,
         open_where (top - gap) (omega arith) (omega arith) (omega arith),
-        λ k lo hi. shut_where k (λ p q z.
+        λ k out lo. shut_where k (λ p q z.
             let f' : b - (top - k) ≡ k - d.phase = omega arith in
             let e' = sym (ap (λ (m : ℕ). m % d.period) f') ∙ back_in_turn b (top - k) d.period (omega arith) lt in
             omega arith),
-      ))
-
-  tide_greatest : (t : ℕ) → Greatest (tide_opens d) d.passage t (tide_last d t)
-  tide_greatest t =
-      let end = min t 20160 in
-      let top = end - d.passage in
-      let s = last_start d top in
-      cond_both (leb d.passage d.length && leb (d.phase + d.passage) end) (Some s) None (Greatest (tide_opens d) d.passage t)
-      (λ y. let parts = and_parts (leb d.passage d.length) (leb (d.phase + d.passage) end) y in
-      let a = leb-true d.passage d.length parts.0 in
-      let b = leb-true (d.phase + d.passage) end parts.1 in
-      let l = lasts top a (omega arith) (omega arith) in
-      (omega (arith, l.0), l.1, λ k by lo. ⊎_elim (λ high. shut_where k (λ p q z. omega arith)) (λ low. l.2 k lo low) (cases_lt top k)))
-      (λ n k by. shut_where k (λ p q z.
-      ⊎_elim
-      (λ long. omega (arith, leb-false d.passage d.length long))
-      (λ out. omega (arith, leb-false (d.phase + d.passage) end out))
-      (and_cases (leb d.passage d.length) (leb (d.phase + d.passage) end) n)))
-
--- ---- the answers
-module _ (ds : List Tide) (g t : ℕ) where
-  abbrev at : ℕ → Option Tide
-  at = sound_gate tide_faults ds
-
-  abbrev minutes : Tide → ℕ
-  minutes d = d.passage
-
-  abbrev opens : ℕ → Tide → ℕ → Bool
-  opens g = tide_opens
-
-  pub tidal_first_lacks : at g ≡ None → None ≡ first_open (tidal_exits ds g) t
-  tidal_first_lacks = first_lacks minutes opens at (tidal_takes ds) (tidal_ends ds) g t
-
-  pub tidal_last_lacks : at g ≡ None → None ≡ last_open (tidal_exits ds g) t
-  tidal_last_lacks = last_lacks minutes opens at (tidal_takes ds) (tidal_ends ds) g t
-
-  module _ (d : Tide) (found : at g ≡ Some d) where
-    least : (r : Option ℕ) → r ≡ tide_first d t → Least (tide_opens d) t r
-    least r is = subst (Least (tide_opens d) t) (sym is) (tide_least d (sound_tide ds g d found) t)
-
-    greatest : (r : Option ℕ) → r ≡ tide_last d t → Greatest (tide_opens d) d.passage t r
-    greatest r is = subst (Greatest (tide_opens d) d.passage t) (sym is) (tide_greatest d (sound_tide ds g d found) t)
-
-    pub tidal_first_none : None ≡ tide_first d t → None ≡ first_open (tidal_exits ds g) t
-    tidal_first_none is = first_none minutes opens at (tidal_takes ds) (tidal_ends ds) g t d found (least None is)
-
-    pub tidal_first_some : (s : ℕ) → Some s ≡ tide_first d t → Some (s, s + d.passage) ≡ first_open (tidal_exits ds g) t
-    tidal_first_some s is = first_some minutes opens at (tidal_takes ds) (tidal_ends ds) g t d found s (least (Some s) is)
-
-    pub tidal_last_none : None ≡ tide_last d t → None ≡ last_open (tidal_exits ds g) t
-    tidal_last_none is = last_none minutes opens at (tidal_takes ds) (tidal_ends ds) g t d found (greatest None is)
-
-    pub tidal_last_some : (s : ℕ) → Some s ≡ tide_last d t → Some (s, s + d.passage) ≡ last_open (tidal_exits ds g) t
-    tidal_last_some s is = last_some minutes opens at (tidal_takes ds) (tidal_ends ds) g t d found s (greatest (Some s) is)
+      )

@@ -5,6 +5,7 @@ pub mod Records
 pub mod Windows
 pub mod Tides
 pub mod Options
+pub mod Extremes
 pub mod Scans
 pub mod Sound
 pub mod WindowLaws

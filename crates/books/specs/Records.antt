@@ -1,8 +1,9 @@
 -- What a book means that has one record for each gate. Assumes nothing.
 use Rattle.std.specs.Prelude.{◌≡◌, ℕ, ◌+◌, ◌≤◌, Bool, true, false, cond, List, Some, None, Option, nat_lt, refl}
-use Rattle.std.proofs.Common.{sym, ap, ◌∙◌, ⊎_elim, arith}
+use Rattle.std.proofs.Common.{sym, ap, ◌∙◌, arith}
 use Rattle.std.specs.List.{slice_get}
-use Rattle.std.proofs.lemmas.Bool.{cases_Bool, cond-true, cond-false}
+use Rattle.std.proofs.lemmas.Bool.{cond-true, cond-false}
+use Rattle.std.proofs.lemmas.Option.{cond_some}
 use Rattle.books.specs.Meaning.{Exits, Lawful}
 use Rattle.books.specs.Options.{none_not_some, some_one}
 use Rattle.books.specs.Faults.{listed, faultless}
@@ -36,10 +37,8 @@ module _ {R : Type 0} (passage : R → ℕ) (opens : ℕ → R → ℕ → Bool)
   passed_by : (g s e : ℕ) (o : Option R) → at g ≡ o → exit_by passage (opens g) o s ≡ Some e → Passed g s e
   passed_by g s e None found h = none_not_some None e refl h
   passed_by g s e (Some r) found h =
-      ⊎_elim
-      (λ y. record { by = r; found = found; opened = y; out = some_one (Some e) e (s + passage r) refl (sym h ∙ cond-true (opens g r s) (Some (s + passage r)) None y) })
-      (λ n. none_not_some (cond (opens g r s) (Some (s + passage r)) None) e (cond-false (opens g r s) (Some (s + passage r)) None n) h)
-      (cases_Bool (opens g r s))
+      let p = cond_some (opens g r s) (s + passage r) e h in
+      record { by = r; found = found; opened = p.0; out = sym p.1 }
 
   pub passed : (g s e : ℕ) → exits_by g s ≡ Some e → Passed g s e
   passed g s e h = passed_by g s e (at g) refl h

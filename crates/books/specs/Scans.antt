@@ -1,8 +1,8 @@
 -- Lemmas: `first_open` and `last_open` find the extreme open instant, and nothing else is it.
 -- Nothing here is a definition that a contract cites.
-use Rattle.std.specs.Prelude.{◌≡◌, ℕ, zero, suc, ◌+◌, ◌-◌, ◌<◌, ◌≤◌, Bool, cond, Some, None, Option, nat_le, refl}
+use Rattle.std.specs.Prelude.{◌≡◌, ℕ, zero, suc, ◌+◌, ◌-◌, ◌<◌, ◌≤◌, Some, None, Option, nat_le, refl}
 use Rattle.std.proofs.Common.{sym, ap, subst, ⊎_elim, arith}
-use Rattle.std.proofs.lemmas.Bool.{cases_eq, cases_order, cases_Bool, leb-true, leb-false}
+use Rattle.std.proofs.lemmas.Bool.{cases_eq, cases_order, cond_both, leb-true, leb-false}
 use Rattle.books.specs.Meaning.{Exits, Lawful, open_or_later, first_of, first_open, out_or_earlier, last_below, last_open, LeastOpen, GreatestOut, FirstOpenIsLeast, LastOpenIsGreatest}
 use Rattle.books.specs.Options.{option_cases, none_not_some, some_one}
 
@@ -75,11 +75,9 @@ greatest_later x t n here (Some p) h = (h.0, h.1, λ k e lo hi at. late_below x 
 greatest_here : (x : ℕ → Option ℕ) (t n : ℕ) (o : Option ℕ) → x n ≡ o → GreatestBelow x t n (last_below x t n) → GreatestBelow x t (suc n) (out_or_earlier o t n (last_below x t n))
 greatest_here x t n None at h = greatest_later x t n (λ e so. none_not_some (x n) e at so) (last_below x t n) h
 greatest_here x t n (Some e) at h =
-    let P : Bool → Type 0 = λ b. GreatestBelow x t (suc n) (cond b (Some (n, e)) (last_below x t n)) in
-    ⊎_elim
-    (λ y. subst P (sym y) (leb-true e t y, at, λ k e lo hi so. absurd (omega arith)))
-    (λ n'. subst P (sym n') (greatest_later x t n (λ d so. let same : e ≡ d = some_one (x n) e d at so in omega (arith, leb-false e t n')) (last_below x t n) h))
-    (cases_Bool (nat_le e t))
+    cond_both (nat_le e t) (Some (n, e)) (last_below x t n) (GreatestBelow x t (suc n))
+    (λ y. (leb-true e t y, at, λ k e lo hi so. absurd (omega arith)))
+    (λ late. greatest_later x t n (λ d so. let same : e ≡ d = some_one (x n) e d at so in omega (arith, leb-false e t late)) (last_below x t n) h)
 
 last_below_greatest : (x : ℕ → Option ℕ) (t n : ℕ) → GreatestBelow x t n (last_below x t n)
 last_below_greatest x t zero = λ k e hi at. absurd (omega arith)

@@ -1,11 +1,12 @@
 -- Lemmas: what a record without a fault keeps to, and when a gate has a sound record.
 -- Nothing here is a definition that a contract cites.
-use Rattle.std.specs.Prelude.{◌≡◌, ℕ, ◌<◌, ◌≤◌, Bool, true, false, cond, not, ◌&&◌, ◌||◌, List, [], ◌∷◌, ◌++◌, length, Some, None, Option, ◌==◌, nat_lt, refl}
+use Rattle.std.specs.Prelude.{◌≡◌, ℕ, ◌<◌, ◌≤◌, Bool, true, false, not, ◌&&◌, ◌||◌, List, [], ◌∷◌, ◌++◌, length, Some, None, Option, ◌==◌, nat_lt, refl}
 use Rattle.std.proofs.Common.{sym, ap, subst, ◌∙◌, ⊎_elim, arith}
 use Rattle.std.specs.List.{slice_get}
-use Rattle.std.proofs.lemmas.Option.{slice_get_past}
-use Rattle.std.proofs.lemmas.Bool.{cases_Bool, cases_lt, eqb-false, cond-true, cond-false, ltb-true, ltb-false, lt-ltb, le-ltb, ne_eqb, or_parts, or_from, and_parts, and_from, not-true, not_from_false}
-use Rattle.books.specs.Options.{none_not_some, some_one}
+use Rattle.std.proofs.lemmas.Option.{slice_get_past, cond_some}
+use Rattle.std.proofs.lemmas.Bool.{cases_Bool, cases_lt, cond-true, cond-false, ltb-true, lt-ltb, le-ltb}
+use Rattle.std.proofs.lemmas.Bool.Decides.{nat_tests}
+use Rattle.books.specs.Options.{none_not_some}
 use Rattle.books.specs.Faults.{listed, when, faultless, passage_faults}
 use Rattle.books.specs.Records.{sound_only, sound_gate}
 
@@ -13,18 +14,11 @@ pub faultless_when : (b : Bool) (n : ℕ) (ns : List ℕ) → faultless (when b 
 faultless_when true n ns = refl
 faultless_when false n ns = refl
 
-pub positive : (n : ℕ) → (n == 0) ≡ false → 1 ≤ n
-positive n h = ⊎_elim (λ lt. absurd (eqb-false n 0 h (omega arith))) (λ ge. ge) (cases_lt n 1)
-
 pub passage_fine : (n p : ℕ) → faultless (passage_faults n p) ≡ true → (1 ≤ p) × (p ≤ 20160)
-passage_fine n p h =
-    let both = or_parts (p == 0) (nat_lt 20160 p) (not-true (p == 0 || nat_lt 20160 p) (and_parts (not (p == 0 || nat_lt 20160 p)) true (sym (faultless_when (p == 0 || nat_lt 20160 p) 13 []) ∙ h)).0) in
-    (positive p both.0, ltb-false 20160 p both.1)
+passage_fine n p h = let e = faultless_when (p == 0 || nat_lt 20160 p) 13 [] in (grind (arith, nat_tests), grind (arith, nat_tests))
 
 pub passage_none : (n p : ℕ) → 1 ≤ p → p ≤ 20160 → faultless (passage_faults n p) ≡ true
-passage_none n p some within =
-    faultless_when (p == 0 || nat_lt 20160 p) 13 []
-    ∙ and_from (not (p == 0 || nat_lt 20160 p)) true (not_from_false (p == 0 || nat_lt 20160 p) (or_from (p == 0) (nat_lt 20160 p) (ne_eqb p 0 (λ z. omega arith)) (le-ltb 20160 p within))) refl
+passage_none n p some within = let e = faultless_when (p == 0 || nat_lt 20160 p) 13 [] in grind (arith, nat_tests)
 
 pub faultless_both : (ms ns : List ℕ) → faultless (ms ++ ns) ≡ (faultless ms && faultless ns)
 faultless_both [] ns = refl
@@ -42,11 +36,8 @@ pub record SoundGate {R : Type 0} (faults : ℕ → R → List ℕ) (rs : List R
 sound_only_is : {R : Type 0} (faults : R → List ℕ) (o : Option R) (r : R) → sound_only faults o ≡ Some r → (o ≡ Some r) × (faultless (faults r) ≡ true)
 sound_only_is faults None r h = none_not_some None r refl h
 sound_only_is {R} faults (Some r') r h =
-    ⊎_elim
-    (λ y. let same : r' ≡ r = some_one (Some r') r' r refl (sym (cond-true (faultless (faults r')) (Some r') None y) ∙ h) in
-    (ap Some same, subst (λ (x : R). faultless (faults x) ≡ true) same y))
-    (λ n. none_not_some (cond (faultless (faults r')) (Some r') None) r (cond-false (faultless (faults r')) (Some r') None n) h)
-    (cases_Bool (faultless (faults r')))
+    let p = cond_some (faultless (faults r')) r' r h in
+    (ap Some p.1, subst (λ (x : R). faultless (faults x) ≡ true) p.1 p.0)
 
 module _ {R : Type 0} (faults : ℕ → R → List ℕ) (rs : List R) (g : ℕ) where
   pub gate_sound_only : (r : R) → sound_gate faults rs g ≡ Some r → SoundGate faults rs g r

@@ -1,12 +1,12 @@
 -- Lemmas: a tide book keeps the laws, and means what its rule says.
 -- Nothing here is a definition that a contract cites.
-use Rattle.std.specs.Prelude.{◌≡◌, ℕ, ◌+◌, ◌-◌, ◌%◌, ◌≤◌, Bool, true, not, ◌&&◌, ◌||◌, List, [], Some, ◌==◌, nat_le, nat_lt, refl}
+use Rattle.std.specs.Prelude.{◌≡◌, ℕ, ◌+◌, ◌-◌, ◌%◌, ◌≤◌, Bool, true, not, ◌&&◌, ◌||◌, List, [], Some, ◌==◌, nat_lt, refl}
 use Rattle.std.proofs.Common.{sym, ap, ◌∙◌, arith}
-use Rattle.std.proofs.lemmas.Bool.{leb-true, le-leb, ltb-false, le-ltb, ne_eqb, or_parts, or_from, and_parts, and_from, not-true, not_from_false}
+use Rattle.std.proofs.lemmas.Bool.Decides.{nat_tests}
 use Rattle.books.specs.Meaning.{Lawful, Means}
 use Rattle.books.specs.Faults.{listed, faultless, passage_faults}
 use Rattle.books.specs.Records.{sound_gate, exits_by_lawful, passed, exit_open}
-use Rattle.books.specs.Sound.{faultless_when, faultless_both, positive, passage_fine, passage_none, listed_gate, gate_sound_only, sound_gate_all, sound_gate_lacks}
+use Rattle.books.specs.Sound.{faultless_when, faultless_both, listed_gate, gate_sound_only, sound_gate_all, sound_gate_lacks}
 use Rattle.books.specs.Tides.{turn_faults, tide_faults, tide_opens, tidal_exits, TidalPassage}
 use Rattle.books.specs.declared.tides.Tide.{Tide}
 
@@ -21,20 +21,16 @@ pub record TideFine (d : Tide) : Type 0 where
 abbrev bad_turn : Tide → Bool
 bad_turn d = d.period == 0 || (nat_lt d.period d.length || nat_lt 20160 d.phase)
 
+tide_test : (n : ℕ) (d : Tide) → faultless (tide_faults n d) ≡ (not (d.passage == 0 || nat_lt 20160 d.passage) && not (bad_turn d))
+tide_test n d = grind (arith, nat_tests, faultless_both (passage_faults n d.passage) (turn_faults d), faultless_when (d.passage == 0 || nat_lt 20160 d.passage) 13 [], faultless_when (bad_turn d) 16 [])
+
 pub tide_fine : (n : ℕ) (d : Tide) → faultless (tide_faults n d) ≡ true → TideFine d
 tide_fine n d h =
-    let two = and_parts (faultless (passage_faults n d.passage)) (faultless (turn_faults d)) (sym (faultless_both (passage_faults n d.passage) (turn_faults d)) ∙ h) in
-    let passage = passage_fine n d.passage two.0 in
-    let turn = or_parts (d.period == 0) (nat_lt d.period d.length || nat_lt 20160 d.phase) (not-true (bad_turn d) (and_parts (not (bad_turn d)) true (sym (faultless_when (bad_turn d) 16 []) ∙ two.1)).0) in
-    let rest = or_parts (nat_lt d.period d.length) (nat_lt 20160 d.phase) turn.1 in
-    record { some = passage.0; within = passage.1; turns = positive d.period turn.0; part = ltb-false d.period d.length rest.0; in_time = ltb-false 20160 d.phase rest.1 }
+    let e = tide_test n d in
+    record { some = grind (arith, nat_tests); within = grind (arith, nat_tests); turns = grind (arith, nat_tests); part = grind (arith, nat_tests); in_time = grind (arith, nat_tests) }
 
 tide_none : (n : ℕ) (d : Tide) → TideFine d → faultless (tide_faults n d) ≡ true
-tide_none n d f =
-    faultless_both (passage_faults n d.passage) (turn_faults d)
-    ∙ and_from (faultless (passage_faults n d.passage)) (faultless (turn_faults d)) (passage_none n d.passage f.some f.within)
-    (faultless_when (bad_turn d) 16 [] ∙ and_from (not (bad_turn d)) true
-    (not_from_false (bad_turn d) (or_from (d.period == 0) (nat_lt d.period d.length || nat_lt 20160 d.phase) (ne_eqb d.period 0 (λ z. omega (arith, f.turns))) (or_from (nat_lt d.period d.length) (nat_lt 20160 d.phase) (le-ltb d.period d.length f.part) (le-ltb 20160 d.phase f.in_time)))) refl)
+tide_none n d f = let e = tide_test n d in grind (arith, nat_tests, f.some, f.within, f.turns, f.part, f.in_time)
 
 -- ---- an open instant
 pub record TideOpen (d : Tide) (s : ℕ) : Type 0 where
@@ -43,15 +39,13 @@ pub record TideOpen (d : Tide) (s : ℕ) : Type 0 where
   pub ends : s + d.passage ≤ 20160
 
 pub tide_open : (d : Tide) (s : ℕ) → tide_opens d s ≡ true → TideOpen d s
-tide_open d s h =
-    let two = and_parts (nat_le d.phase s) (nat_le ((s - d.phase) % d.period + d.passage) d.length && nat_le (s + d.passage) 20160) h in
-    let rest = and_parts (nat_le ((s - d.phase) % d.period + d.passage) d.length) (nat_le (s + d.passage) 20160) two.1 in
-    record { come = leb-true d.phase s two.0; fits = leb-true ((s - d.phase) % d.period + d.passage) d.length rest.0; ends = leb-true (s + d.passage) 20160 rest.1 }
+tide_open d s h = record { come = grind (arith, nat_tests); fits = grind (arith, nat_tests); ends = grind (arith, nat_tests) }
 
 pub tide_opens_at : (d : Tide) (s : ℕ) → TideOpen d s → tide_opens d s ≡ true
-tide_opens_at d s o =
-    and_from (nat_le d.phase s) (nat_le ((s - d.phase) % d.period + d.passage) d.length && nat_le (s + d.passage) 20160) (le-leb d.phase s o.come)
-    (and_from (nat_le ((s - d.phase) % d.period + d.passage) d.length) (nat_le (s + d.passage) 20160) (le-leb ((s - d.phase) % d.period + d.passage) d.length o.fits) (le-leb (s + d.passage) 20160 o.ends))
+tide_opens_at d s o = grind (arith, nat_tests, o.come, o.fits, o.ends)
+
+pub tide_ends : (d : Tide) (s : ℕ) → tide_opens d s ≡ true → s + d.passage ≤ 20160
+tide_ends d s h = (tide_open d s h).ends
 
 -- ---- the laws
 module _ (ds : List Tide) where
@@ -61,11 +55,8 @@ module _ (ds : List Tide) where
   pub tidal_takes : (g : ℕ) (d : Tide) → sound_gate tide_faults ds g ≡ Some d → 1 ≤ d.passage
   tidal_takes g d h = (sound_tide g d h).some
 
-  pub tidal_ends : (g : ℕ) (d : Tide) (s : ℕ) → tide_opens d s ≡ true → s + d.passage ≤ 20160
-  tidal_ends g d s h = (tide_open d s h).ends
-
   pub tidal_lawful : Lawful (listed ds) (tidal_exits ds)
-  tidal_lawful = exits_by_lawful (λ d. d.passage) (λ g. tide_opens) (sound_gate tide_faults ds) tidal_takes tidal_ends (listed ds) (omega arith) (sound_gate_lacks tide_faults ds)
+  tidal_lawful = exits_by_lawful (λ d. d.passage) (λ g. tide_opens) (sound_gate tide_faults ds) tidal_takes (λ g. tide_ends) (listed ds) (omega arith) (sound_gate_lacks tide_faults ds)
 
   -- ---- the rule
   tidal_only : (g s e : ℕ) → tidal_exits ds g s ≡ Some e → TidalPassage ds g s e

@@ -1,5 +1,5 @@
 -- What a tide book means, and which faults its records have. Assumes nothing.
-use Rattle.std.specs.Prelude.{◌≡◌, ℕ, ◌+◌, ◌-◌, ◌%◌, ◌<◌, ◌≤◌, min, max, Bool, cond, ◌&&◌, ◌||◌, List, [], ◌++◌, Some, None, codes, Option, ◌==◌, nat_le, nat_lt}
+use Rattle.std.specs.Prelude.{◌≡◌, ℕ, ◌+◌, ◌-◌, ◌%◌, ◌<◌, ◌≤◌, Bool, ◌&&◌, ◌||◌, List, [], ◌++◌, Some, codes, ◌==◌, nat_le, nat_lt}
 use Rattle.std.specs.List.{slice_get}
 use Rattle.books.specs.Meaning.{Exits}
 use Rattle.books.specs.Told.{Told}
@@ -44,18 +44,3 @@ pub record TidalPassage (ds : List Tide) (g s e : ℕ) : Type 0 where
   pub fits : (s - tide.phase) % tide.period + tide.passage ≤ tide.length
   pub ends : s + tide.passage ≤ 20160
   pub out : e ≡ s + tide.passage
-
--- ---- as the code reckons
--- the start of the first passage from an instant on that is not before the phase
-abbrev pub next_start : Tide → ℕ → ℕ
-next_start d base = let r = (base - d.phase) % d.period in cond (nat_le (r + d.passage) d.length) base (base + (d.period - r))
-
-abbrev pub tide_first : Tide → ℕ → Option ℕ
-tide_first d t = let s = next_start d (max t d.phase) in cond (nat_le d.passage d.length && nat_le (s + d.passage) 20160) (Some s) None
-
--- the start of the last passage up to an instant that is not before the phase
-abbrev pub last_start : Tide → ℕ → ℕ
-last_start d top = let r = (top - d.phase) % d.period in cond (nat_le (r + d.passage) d.length) top (top - (r + d.passage - d.length))
-
-abbrev pub tide_last : Tide → ℕ → Option ℕ
-tide_last d t = let end = min t 20160 in cond (nat_le d.passage d.length && nat_le (d.phase + d.passage) end) (Some (last_start d (end - d.passage))) None

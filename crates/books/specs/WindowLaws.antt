@@ -1,9 +1,10 @@
 -- Lemmas: a window book keeps the laws, and means what its rule says.
 -- Nothing here is a definition that a contract cites.
-use Rattle.std.specs.Prelude.{◌≡◌, ℕ, zero, suc, ◌+◌, ◌<◌, ◌≤◌, Bool, true, false, not, ◌&&◌, ◌||◌, List, [], ◌∷◌, Some, None, ◌==◌, nat_le, nat_lt, refl}
-use Rattle.std.proofs.Common.{sym, ap, subst, ◌∙◌, ⊎_elim, arith}
+use Rattle.std.specs.Prelude.{◌≡◌, ℕ, zero, suc, ◌+◌, ◌<◌, ◌≤◌, Bool, true, false, not, ◌&&◌, ◌||◌, List, [], ◌∷◌, Some, None, nat_le, nat_lt, refl}
+use Rattle.std.proofs.Common.{sym, ap, ◌∙◌, ⊎_elim, arith}
 use Rattle.std.specs.List.{slice_get}
-use Rattle.std.proofs.lemmas.Bool.{leb-true, leb-false, le-leb, lt-leb, ltb-false, le-ltb, eqb-true, eq-eqb, or_cases, or_parts, or_from, or_left, or_right, and_parts, and_from, not-true, not_from_false}
+use Rattle.std.proofs.lemmas.Bool.{or_cases, or_left, or_right}
+use Rattle.std.proofs.lemmas.Bool.Decides.{nat_tests}
 use Rattle.books.specs.Meaning.{Lawful, Means}
 use Rattle.books.specs.Options.{none_not_some, some_one}
 use Rattle.books.specs.Faults.{listed, when, faultless, passage_faults}
@@ -29,16 +30,11 @@ pub record WindowFine (n : ℕ) (w : Window) : Type 0 where
 
 pub window_fine : (n : ℕ) (w : Window) → faultless (window_faults n w) ≡ true → WindowFine n w
 window_fine n w h =
-    let bad = nat_lt w.end w.begin || nat_lt 20160 w.end in
-    let two = and_parts (not (nat_le n w.gate)) (not bad) (sym (window_test n w) ∙ h) in
-    let span = or_parts (nat_lt w.end w.begin) (nat_lt 20160 w.end) (not-true bad two.1) in
-    record { gate = leb-false n w.gate (not-true (nat_le n w.gate) two.0); ordered = ltb-false w.end w.begin span.0; in_time = ltb-false 20160 w.end span.1 }
+    let e = window_test n w in
+    record { gate = grind (arith, nat_tests); ordered = grind (arith, nat_tests); in_time = grind (arith, nat_tests) }
 
 window_none : (n : ℕ) (w : Window) → WindowFine n w → faultless (window_faults n w) ≡ true
-window_none n w f =
-    let bad = nat_lt w.end w.begin || nat_lt 20160 w.end in
-    window_test n w
-    ∙ and_from (not (nat_le n w.gate)) (not bad) (not_from_false (nat_le n w.gate) (lt-leb n w.gate f.gate)) (not_from_false bad (or_from (nat_lt w.end w.begin) (nat_lt 20160 w.end) (le-ltb w.end w.begin f.ordered) (le-ltb 20160 w.end f.in_time)))
+window_none n w f = let e = window_test n w in grind (arith, nat_tests, f.gate, f.ordered, f.in_time)
 
 -- ---- the window that holds a passage
 pub record Held (n : ℕ) (ws : List Window) (g p s : ℕ) : Type 0 where
@@ -54,10 +50,7 @@ pub held_by : (n : ℕ) (ws : List Window) (g p s : ℕ) → held n ws g p s ≡
 held_by n [] g p s h = let z : ◌≡◌ {A = ℕ} 0 1 = cc in absurd (omega arith)
 held_by n (w ∷ ws) g p s h =
     ⊎_elim
-    (λ y. let two = and_parts (faultless (window_faults n w)) (holds g p s w) y in
-    let its = and_parts (w.gate == g) (nat_le w.begin s && nat_le (s + p) w.end) two.1 in
-    let span = and_parts (nat_le w.begin s) (nat_le (s + p) w.end) its.1 in
-    record { place = 0; window = w; at = refl; its_gate = eqb-true w.gate g its.0; fine = window_fine n w two.0; opened = leb-true w.begin s span.0; closes = leb-true (s + p) w.end span.1 })
+    (λ y. record { place = 0; window = w; at = refl; its_gate = grind (arith, nat_tests); fine = window_fine n w (grind (arith, nat_tests)); opened = grind (arith, nat_tests); closes = grind (arith, nat_tests) })
     (λ y. let r = held_by n ws g p s y in
     record { place = suc r.place; window = r.window; at = r.at; its_gate = r.its_gate; fine = r.fine; opened = r.opened; closes = r.closes })
     (or_cases (faultless (window_faults n w) && holds g p s w) (held n ws g p s) h)
@@ -66,11 +59,8 @@ held_at : (n : ℕ) (ws : List Window) (g p s i : ℕ) (w : Window) → slice_ge
 held_at n [] g p s i w at its fine opened closes = none_not_some None w refl at
 held_at n (v ∷ ws) g p s zero w at its fine opened closes =
     let same : v ≡ w = some_one (Some v) v w refl at in
-    or_left (faultless (window_faults n v) && holds g p s v) (held n ws g p s)
-    (subst (λ (u : Window). (faultless (window_faults n u) && holds g p s u) ≡ true) (sym same)
-    (and_from (faultless (window_faults n w)) (holds g p s w) (window_none n w fine)
-    (and_from (w.gate == g) (nat_le w.begin s && nat_le (s + p) w.end) (eq-eqb w.gate g its)
-    (and_from (nat_le w.begin s) (nat_le (s + p) w.end) (le-leb w.begin s opened) (le-leb (s + p) w.end closes)))))
+    let sound = window_none n w fine in
+    or_left (faultless (window_faults n v) && holds g p s v) (held n ws g p s) (rw same (grind (arith, nat_tests)))
 held_at n (v ∷ ws) g p s (suc i) w at its fine opened closes =
     or_right (faultless (window_faults n v) && holds g p s v) (held n ws g p s) (held_at n ws g p s i w at its fine opened closes)
 

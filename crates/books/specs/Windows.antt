@@ -57,13 +57,3 @@ window_first g p t w = cond (w.gate == g && (nat_le w.end 20160 && nat_le (max w
 -- the greatest such instant from which the boat comes out by t
 abbrev pub window_last : ℕ → ℕ → ℕ → Window → Option ℕ
 window_last g p t w = cond (w.gate == g && (nat_le w.end 20160 && nat_le (w.begin + p) (min w.end t))) (Some (min w.end t - p)) None
-
-abbrev pub earlier_of : Option ℕ → Option ℕ → Option ℕ
-earlier_of None b = b
-earlier_of (Some a) None = Some a
-earlier_of (Some a) (Some b) = Some (min a b)
-
-abbrev pub later_of : Option ℕ → Option ℕ → Option ℕ
-later_of None b = b
-later_of (Some a) None = Some a
-later_of (Some a) (Some b) = Some (max a b)

@@ -3,6 +3,7 @@
 
 pub mod book;
 pub mod faults;
+mod gate_rule;
 pub mod passages;
 mod records;
 #[cfg(test)]

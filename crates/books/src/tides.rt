@@ -1,14 +1,15 @@
 // The tide book: gates that open for a part of every turn of the tide.
-ghost use Rattle.std.specs.Prelude.{◌≡◌, ◌≤◌};
-ghost use Rattle.books.specs.Faults.{listed};
-ghost use Rattle.books.specs.TideLaws.{tidal_lawful};
-ghost use Rattle.books.specs.Tides.{tide_faults, tidal_exits, tide_first, tide_last};
+ghost use Rattle.std.specs.Prelude.{◌≡◌, min, length};
+ghost use Rattle.books.specs.Faults.{head, listed};
+ghost use Rattle.books.specs.Meaning.{Means};
+ghost use Rattle.books.specs.TideLaws.{TideFine, tide_ends, tidal_lawful};
+ghost use Rattle.books.specs.Tides.{tide_faults, tide_opens, tidal_exits, tidal_faults, TidalPassage};
+ghost use Rattle.books.specs.Told.{told};
 
 use crate::book::{Book, Gate, Instant, LAST_INSTANT};
-use crate::faults::Fault;
-use crate::records::{Record, gate_count, gate_record};
-
-pub mod made;
+use crate::faults::{Fault, Finding, RecordList};
+use crate::gate_rule::GateRule;
+use crate::records::{Record, gate_count, gate_list_fault, gate_record};
 
 // The record of a gate in a tide book. From the phase on the tide turns every period; a passage lies in
 // the first length minutes of a turn.
@@ -20,44 +21,39 @@ pub struct Tide {
     pub passage: u16,
 }
 
-impl Tide {
-    // The least instant from t on at which the tide lets a boat in.
-    fn first_entry(self, t: Instant) -> Option<Instant>
-        requires { 1 ≤ self.period }
-        ensures { result ≡ tide_first self t }
-    {
-        let passage = u32::from(self.passage);
-        let base = t.max(self.phase);
-        let turned = (base - self.phase) % self.period;
-        let start = if u32::from(turned) + passage <= u32::from(self.length) {
-            u32::from(base)
-        } else {
-            u32::from(base) + u32::from(self.period - turned)
-        };
-        if self.passage <= self.length && start + passage <= u32::from(LAST_INSTANT) {
-            Some(start as Instant)
-        } else {
-            None
-        }
+impl GateRule for Tide {
+    ghost minutes = { λ tide. tide.passage };
+
+    ghost opens = { tide_opens };
+
+    ghost Sound = { TideFine };
+
+    ghost ends = { tide_ends };
+
+    fn minutes(&self) -> u16 {
+        self.passage
     }
 
-    // The greatest from which the boat comes out by t.
-    fn last_entry(self, t: Instant) -> Option<Instant>
-        requires { 1 ≤ self.period }
-        ensures { result ≡ tide_last self t }
-    {
-        let exit = t.min(LAST_INSTANT);
-        if self.passage > self.length || self.phase > exit || self.passage > exit - self.phase {
-            return None;
-        }
-        let top = exit - self.passage;
-        let turned = (top - self.phase) % self.period;
-        let slack = self.length - self.passage;
-        if turned <= slack {
-            Some(top)
+    fn first_entry(&self, t: Instant) -> Option<Instant> {
+        let slack = self.length.checked_sub(self.passage)?;
+        let base = t.max(self.phase);
+        let turned = (base - self.phase) % self.period;
+        let start = if turned <= slack {
+            base
         } else {
-            Some(top - (turned - slack))
-        }
+            base.checked_add(self.period - turned)?
+        };
+        let exit = start.checked_add(self.passage)?;
+        (exit <= LAST_INSTANT).then_some(start)
+    }
+
+    fn last_entry(&self, t: Instant) -> Option<Instant> {
+        let slack = self.length.checked_sub(self.passage)?;
+        let exit = t.min(LAST_INSTANT);
+        let top = exit.checked_sub(self.passage)?;
+        let since = top.checked_sub(self.phase)?;
+        let turned = since % self.period;
+        Some(top - turned.saturating_sub(slack))
     }
 }
 
@@ -65,14 +61,9 @@ impl Record for Tide {
     ghost faults = { tide_faults };
 
     fn fault(&self, gates: Gate) -> Option<Fault> {
-        if let Some(fault) = self.passage.fault(gates) {
-            return Some(fault);
-        }
-        if self.period == 0 || self.length > self.period || self.phase > LAST_INSTANT {
-            Some(Fault::TideTurn)
-        } else {
-            None
-        }
+        let bad_turn = self.period == 0 || self.length > self.period || self.phase > LAST_INSTANT;
+        let turn = bad_turn.then_some(Fault::TideTurn);
+        self.passage.fault(gates).or(turn)
     }
 }
 
@@ -80,6 +71,25 @@ impl Record for Tide {
 #[derive(Clone, Copy)]
 pub struct TideBook<'a> {
     tides: &'a [Tide],
+}
+
+impl<'a> TideBook<'a> {
+    // A gate is open at s when s >= phase, ((s - phase) mod period) + passage time <= length and
+    // s + passage time <= 20,160; the exit is s + passage time. Entries past the first 256 are no
+    // gates; what has a fault doesn't count.
+    pub fn new(tides: &'a [Tide]) -> TideBook<'a>
+        ensures meaning { Means (⟦<TideBook<'a> as Book>⟧.gates result) (⟦<TideBook<'a> as Book>⟧.exits result) (min (length tides.now) 256) (TidalPassage tides.now) }
+        ensures records { result.tides.now ≡ tides.now }
+    {
+        TideBook { tides }
+    }
+
+    // The first faulty record: by place, and then by number.
+    pub fn check(&self) -> Option<Finding>
+        ensures { told result ≡ head (tidal_faults self.now.tides.now) }
+    {
+        gate_list_fault(RecordList::Tides, self.tides)
+    }
 }
 
 impl Book for TideBook<'_> {
@@ -94,14 +104,10 @@ impl Book for TideBook<'_> {
     }
 
     fn first(&self, gate: Gate, t: Instant) -> Option<(Instant, Instant)> {
-        let tide = gate_record(self.tides, gate)?;
-        let s = tide.first_entry(t)?;
-        Some((s, s + tide.passage))
+        gate_record(self.tides, gate)?.first_passage(t)
     }
 
     fn last(&self, gate: Gate, t: Instant) -> Option<(Instant, Instant)> {
-        let tide = gate_record(self.tides, gate)?;
-        let s = tide.last_entry(t)?;
-        Some((s, s + tide.passage))
+        gate_record(self.tides, gate)?.last_passage(t)
     }
 }

@@ -1,12 +1,10 @@
-use Rattle.std.proofs.Common.{sym, ◌∙◌}
-use Rattle.books.proofs.TideTurns.{tidal_first_lacks, tidal_first_none, tidal_first_some}
+use Rattle.std.proofs.Common.{Option, ap, ◌∙◌}
+use Rattle.books.specs.Meaning.{first_open}
+use Rattle.books.specs.Records.{exit_by}
+use Rattle.books.specs.Tides.{tide_opens}
+use Rattle.books.specs.declared.tides.Tide.{Tide}
+use Rattle.books.proofs.Extremes.{no_first}
 use Rattle.books.proofs.tides.TideBookBook.first.Goals as goal
 
-pub returns-in_err-tide : goal.returns-in_err-tide
-returns-in_err-tide c = c.from_residual.ensures ∙ tidal_first_lacks c.args.self.now.tides.now c.args.gate c.args.t (sym c.in_err-tide.ensures)
-
-pub returns-in_err-s : goal.returns-in_err-s
-returns-in_err-s c = c.from_residual-in_err-s.ensures ∙ tidal_first_none c.args.self.now.tides.now c.args.gate c.args.t c.in_ok-tide.tide (sym c.in_ok-tide.ensures) c.in_err-s.ensures
-
-pub returns : goal.returns
-returns c = tidal_first_some c.args.self.now.tides.now c.args.gate c.args.t c.in_ok-tide.tide (sym c.in_ok-tide.ensures) c.in_ok-s.s c.in_ok-s.ensures
+pub returns-in_err-gate_record : goal.returns-in_err-gate_record
+returns-in_err-gate_record c = c.from_residual.ensures ∙ no_first c.args.t ∙ ap (λ (o : Option Tide). first_open (exit_by (λ d. d.passage) tide_opens o) c.args.t) c.in_err-gate_record.ensures
