@@ -62,10 +62,10 @@ so_all_clear [] g s e h = refl
 so_all_clear (m ∷ ns) g s e h = and_from (clears g s e m) (all_clear ns g s e) (so_clears g s e m (h 0 m refl)) (so_all_clear ns g s e (λ i n at. h (suc i) n at))
 
 module _ (ns : List Notice) (gates : ℕ) (x : Exits) where
-  noticed_only : (g s e : ℕ) → noticed_exits ns x g s ≡ Some e → NoticedPassage ns x g s e
+  pub noticed_only : (g s e : ℕ) → noticed_exits ns x g s ≡ Some e → NoticedPassage ns x g s e
   noticed_only g s e h = let two = let_by_only ns g s (x g s) e h in record { below = two.0; clear = all_clear_so ns g s e two.1 }
 
-  noticed_all : (g s e : ℕ) → NoticedPassage ns x g s e → noticed_exits ns x g s ≡ Some e
+  pub noticed_all : (g s e : ℕ) → NoticedPassage ns x g s e → noticed_exits ns x g s ≡ Some e
   noticed_all g s e p = ap (let_by ns g s) p.below ∙ cond-true (all_clear ns g s e) (Some e) None (so_all_clear ns g s e p.clear)
 
   pub noticed_means : Means gates (noticed_exits ns x) gates (NoticedPassage ns x)

@@ -1,10 +1,10 @@
 // The two-book layer: the gates of one book, and then those of another.
-ghost use Rattle.layers.specs.TwoBooks.{two_gates, two_exits};
+ghost use Rattle.std.specs.Prelude.{◌≡◌, ◌+◌, min};
+ghost use Rattle.books.specs.Meaning.{Means};
+ghost use Rattle.layers.specs.TwoBooks.{two_gates, two_exits, TwoPassage};
 ghost use Rattle.layers.specs.TwoLaws.{two_lawful};
 
 use books::book::{Book, Gate, Instant};
-
-pub mod made;
 
 // No book has more gates.
 const MOST_GATES: Gate = 1024;
@@ -14,6 +14,15 @@ const MOST_GATES: Gate = 1024;
 pub struct TwoBooks<F, S> {
     first: F,
     second: S,
+}
+
+impl<F: Book, S: Book> TwoBooks<F, S> {
+    pub fn new(first: F, second: S) -> TwoBooks<F, S>
+        ensures meaning { Means (⟦<TwoBooks<F, S> as Book>⟧.gates result) (⟦<TwoBooks<F, S> as Book>⟧.exits result) (min (F.Book.gates first + S.Book.gates second) 1024) (TwoPassage (F.Book.gates first) (F.Book.exits first) (S.Book.exits second)) }
+        ensures books { (result.first ≡ first) × (result.second ≡ second) }
+    {
+        TwoBooks { first, second }
+    }
 }
 
 impl<F: Book, S: Book> Book for TwoBooks<F, S> {

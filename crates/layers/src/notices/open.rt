@@ -7,24 +7,22 @@ use crate::notices::{Notice, Noticed};
 use books::book::{Book, Gate, Instant};
 
 impl Notice {
-    // A passage from s to e through the gate keeps clear of this notice.
-    fn is_clear_of(self, gate: Gate, s: Instant, e: Instant) -> bool
-        ensures { result ≡ clears gate s e self }
+    // A passage through the gate keeps clear of this notice.
+    fn is_clear_of(self, gate: Gate, passage: (Instant, Instant)) -> bool
+        ensures { result ≡ clears gate passage.0 passage.1 self }
     {
+        let (s, e) = passage;
         self.gate != gate || e <= self.begin || self.end <= s
     }
 }
 
-// The first notice in the way of a passage.
-fn hindrance(notices: &[Notice], gate: Gate, s: Instant, e: Instant) -> Option<Notice>
-    ensures { result ≡ hindering notices.now gate s e }
-{
-    for notice in notices {
-        if !notice.is_clear_of(gate, s, e) {
-            return Some(*notice);
-        }
+impl<B> Noticed<B> {
+    // The first notice in the way of a passage.
+    fn hindrance(&self, gate: Gate, passage: (Instant, Instant)) -> Option<Notice>
+        ensures { result ≡ hindering self.now.notices.items gate passage.0 passage.1 }
+    {
+        self.notices.iter().copied().find(|notice| !notice.is_clear_of(gate, passage))
     }
-    None
 }
 
 impl<B: Book> Book for Noticed<B> {
@@ -42,9 +40,9 @@ impl<B: Book> Book for Noticed<B> {
     fn first(&self, gate: Gate, t: Instant) -> Option<(Instant, Instant)> {
         let mut from = t;
         for _step in 0..self.notices.len() + 1 {
-            let (s, e) = self.book.first(gate, from)?;
-            match hindrance(&self.notices, gate, s, e) {
-                None => return Some((s, e)),
+            let passage = self.book.first(gate, from)?;
+            match self.hindrance(gate, passage) {
+                None => return Some(passage),
                 Some(notice) => from = notice.end,
             }
         }
@@ -55,9 +53,9 @@ impl<B: Book> Book for Noticed<B> {
     fn last(&self, gate: Gate, t: Instant) -> Option<(Instant, Instant)> {
         let mut by = t;
         for _step in 0..self.notices.len() + 1 {
-            let (s, e) = self.book.last(gate, by)?;
-            match hindrance(&self.notices, gate, s, e) {
-                None => return Some((s, e)),
+            let passage = self.book.last(gate, by)?;
+            match self.hindrance(gate, passage) {
+                None => return Some(passage),
                 Some(notice) => by = notice.begin,
             }
         }
