@@ -16,7 +16,7 @@ pub struct TwoBooks<F, S> {
     second: S,
 }
 
-// The book that has a gate, with the gate's number there.
+// Which book has a gate, with the gate's number there.
 enum Side {
     First(Gate),
     Second(Gate),

@@ -21,7 +21,10 @@ impl<B> Noticed<B> {
     fn hindrance(&self, gate: Gate, passage: (Instant, Instant)) -> Option<Notice>
         ensures { result ≡ hindering self.now.notices.items gate passage.0 passage.1 }
     {
-        self.notices.iter().copied().find(|notice| !notice.is_clear_of(gate, passage))
+        self.notices
+            .iter()
+            .copied()
+            .find(|notice| !notice.is_clear_of(gate, passage))
     }
 }
 
@@ -40,22 +43,22 @@ impl<B: Book> Book for Noticed<B> {
     fn first(&self, gate: Gate, t: Instant) -> Option<(Instant, Instant)> {
         let mut from = t;
         for _step in 0..self.notices.len() + 1 {
-            let passage = self.book.first(gate, from)?;
-            match self.hindrance(gate, passage) {
-                None => return Some(passage),
+            let earliest = self.book.first(gate, from)?;
+            match self.hindrance(gate, earliest) {
+                None => return Some(earliest),
                 Some(notice) => from = notice.end,
             }
         }
         None
     }
 
-    // The same backwards.
+    // The same backwards. One loop for both would take two closures and a law of each direction.
     fn last(&self, gate: Gate, t: Instant) -> Option<(Instant, Instant)> {
         let mut by = t;
         for _step in 0..self.notices.len() + 1 {
-            let passage = self.book.last(gate, by)?;
-            match self.hindrance(gate, passage) {
-                None => return Some(passage),
+            let latest = self.book.last(gate, by)?;
+            match self.hindrance(gate, latest) {
+                None => return Some(latest),
                 Some(notice) => by = notice.begin,
             }
         }
