@@ -1,4 +1,3 @@
 pub mod Sides
 pub mod Places
 pub mod Steps
-pub mod Posts

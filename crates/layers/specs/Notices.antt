@@ -1,6 +1,6 @@
 -- What notices over a book mean, and what posting and lifting one does. Assumes nothing.
 use Rattle.std.specs.Prelude.{◌≡◌, ℕ, suc, ◌≤◌, Bool, true, false, cond, not, ◌&&◌, ◌||◌, ◌⊎◌, List, [], ◌∷◌, ◌++◌, length, Some, None, Ok, Err, Option, Result, ◌==◌, nat_le, nat_lt}
-use Rattle.std.specs.List.{slice_get}
+use Rattle.std.specs.List.{slice_get, list_any, list_all, find}
 use Rattle.books.specs.Meaning.{Exits}
 use Rattle.layers.specs.declared.notices.Notice.{Notice}
 use Rattle.layers.specs.declared.notices.refusals.Refusal.{Refusal}
@@ -12,8 +12,7 @@ abbrev pub clears : ℕ → ℕ → ℕ → Notice → Bool
 clears g s e n = not (n.gate == g) || (nat_le e n.begin || nat_le n.end s)
 
 abbrev pub all_clear : List Notice → ℕ → ℕ → ℕ → Bool
-all_clear [] g s e = true
-all_clear (n ∷ ns) g s e = clears g s e n && all_clear ns g s e
+all_clear ns g s e = list_all (clears g s e) ns
 
 -- the exit below, if the passage keeps clear of every notice
 abbrev pub let_by : List Notice → ℕ → ℕ → Option ℕ → Option ℕ
@@ -32,8 +31,7 @@ pub record NoticedPassage (ns : List Notice) (x : Exits) (g s e : ℕ) : Type 0 
 
 -- the first notice that a passage from s to e through gate g does not keep clear of
 abbrev pub hindering : List Notice → ℕ → ℕ → ℕ → Option Notice
-hindering [] g s e = None
-hindering (n ∷ ns) g s e = cond (clears g s e n) (hindering ns g s e) (Some n)
+hindering ns g s e = find (λ n. not (clears g s e n)) ns
 
 -- ---- posting and lifting
 abbrev pub refusal_number : Refusal → ℕ
@@ -53,25 +51,20 @@ abbrev pub same_notice : Notice → Notice → Bool
 same_notice m n = m.gate == n.gate && (m.begin == n.begin && m.end == n.end)
 
 abbrev pub is_up : Notice → List Notice → Bool
-is_up n [] = false
-is_up n (m ∷ ms) = same_notice m n || is_up n ms
+is_up n ns = list_any (λ m. same_notice m n) ns
 
 -- the notices without that one
 abbrev pub taken_down : Notice → List Notice → List Notice
 taken_down n [] = []
 taken_down n (m ∷ ms) = cond (same_notice m n) ms (m ∷ taken_down n ms)
 
--- the number with which a post is declined, if it is: over a book of so many gates, where the same notice is up or not, and
--- 32 are up or not
-abbrev pub refusal_where : ℕ → Notice → Bool → Bool → Option ℕ
-refusal_where gates n up full =
+-- the number with which a post is declined, if it is
+abbrev pub post_refusal : ℕ → List Notice → Notice → Option ℕ
+post_refusal gates ns n =
     cond (nat_le gates n.gate) (Some 7)
     (cond (nat_le n.end n.begin || nat_lt 20160 n.end) (Some 8)
-    (cond up (Some 9)
-    (cond full (Some 10) None)))
-
-abbrev pub post_refusal : ℕ → List Notice → Notice → Option ℕ
-post_refusal gates ns n = refusal_where gates n (is_up n ns) (nat_le 32 (length ns))
+    (cond (is_up n ns) (Some 9)
+    (cond (nat_le 32 (length ns)) (Some 10) None)))
 
 -- what a call leaves: the new notices, unless it is declined
 abbrev pub unless : {X : Type 0} → Option ℕ → X → X → X
@@ -87,8 +80,3 @@ lift_refusal ns n = cond (is_up n ns) None (Some 11)
 
 abbrev pub after_lift : List Notice → Notice → List Notice
 after_lift ns n = unless (lift_refusal ns n) (taken_down n ns) ns
-
--- where the notice stands in a list that begins at place i
-abbrev pub place_of : ℕ → List Notice → Notice → Option ℕ
-place_of i [] n = None
-place_of i (m ∷ ms) n = cond (same_notice m n) (Some i) (place_of (suc i) ms n)

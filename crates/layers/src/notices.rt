@@ -11,7 +11,7 @@ pub mod refusals;
 pub const MOST_NOTICES: usize = 32;
 
 // No passage of the gate may lie, even in part, between begin and end.
-#[derive(Clone, Copy)]
+#[derive(Clone, Copy, PartialEq, Eq, Debug)]
 pub struct Notice {
     pub gate: Gate,
     pub begin: Instant,

@@ -1,10 +1,10 @@
 // The two-book layer: the gates of one book, and then those of another.
-ghost use Rattle.layers.specs.TwoBooks.{two_gates, two_exits};
+ghost use Rattle.std.specs.Prelude.{◌≡◌, ◌+◌, min};
+ghost use Rattle.books.specs.Meaning.{Means};
+ghost use Rattle.layers.specs.TwoBooks.{side_of, two_gates, two_exits, TwoPassage};
 ghost use Rattle.layers.specs.TwoLaws.{two_lawful};
 
 use books::book::{Book, Gate, Instant};
-
-pub mod made;
 
 // No book has more gates.
 const MOST_GATES: Gate = 1024;
@@ -14,6 +14,34 @@ const MOST_GATES: Gate = 1024;
 pub struct TwoBooks<F, S> {
     first: F,
     second: S,
+}
+
+// Which book has a gate, with the gate's number there.
+enum Side {
+    First(Gate),
+    Second(Gate),
+}
+
+impl<F: Book, S: Book> TwoBooks<F, S> {
+    pub fn new(first: F, second: S) -> TwoBooks<F, S>
+        ensures meaning { Means (⟦<TwoBooks<F, S> as Book>⟧.gates result) (⟦<TwoBooks<F, S> as Book>⟧.exits result) (min (F.Book.gates first + S.Book.gates second) 1024) (TwoPassage (F.Book.gates first) (F.Book.exits first) (S.Book.exits second)) }
+        ensures books { (result.first ≡ first) × (result.second ≡ second) }
+    {
+        TwoBooks { first, second }
+    }
+
+    fn side(&self, gate: Gate) -> Option<Side>
+        ensures { result ≡ side_of (F.Book.gates self.now.first) gate }
+    {
+        let firsts = self.first.count();
+        if gate < firsts {
+            Some(Side::First(gate))
+        } else if gate < MOST_GATES {
+            Some(Side::Second(gate - firsts))
+        } else {
+            None
+        }
+    }
 }
 
 impl<F: Book, S: Book> Book for TwoBooks<F, S> {
@@ -29,25 +57,19 @@ impl<F: Book, S: Book> Book for TwoBooks<F, S> {
         (firsts + seconds).min(MOST_GATES)
     }
 
+    #[tactic(auto, using(crate::proofs::Sides::first_shut))]
     fn first(&self, gate: Gate, t: Instant) -> Option<(Instant, Instant)> {
-        let firsts = self.first.count();
-        if gate < firsts {
-            self.first.first(gate, t)
-        } else if gate < MOST_GATES {
-            self.second.first(gate - firsts, t)
-        } else {
-            None
+        match self.side(gate)? {
+            Side::First(gate) => self.first.first(gate, t),
+            Side::Second(gate) => self.second.first(gate, t),
         }
     }
 
+    #[tactic(auto, using(crate::proofs::Sides::last_shut))]
     fn last(&self, gate: Gate, t: Instant) -> Option<(Instant, Instant)> {
-        let firsts = self.first.count();
-        if gate < firsts {
-            self.first.last(gate, t)
-        } else if gate < MOST_GATES {
-            self.second.last(gate - firsts, t)
-        } else {
-            None
+        match self.side(gate)? {
+            Side::First(gate) => self.first.last(gate, t),
+            Side::Second(gate) => self.second.last(gate, t),
         }
     }
 }

@@ -7,24 +7,25 @@ use crate::notices::{Notice, Noticed};
 use books::book::{Book, Gate, Instant};
 
 impl Notice {
-    // A passage from s to e through the gate keeps clear of this notice.
-    fn is_clear_of(self, gate: Gate, s: Instant, e: Instant) -> bool
-        ensures { result ≡ clears gate s e self }
+    // A passage through the gate keeps clear of this notice.
+    fn is_clear_of(self, gate: Gate, passage: (Instant, Instant)) -> bool
+        ensures { result ≡ clears gate passage.0 passage.1 self }
     {
+        let (s, e) = passage;
         self.gate != gate || e <= self.begin || self.end <= s
     }
 }
 
-// The first notice in the way of a passage.
-fn hindrance(notices: &[Notice], gate: Gate, s: Instant, e: Instant) -> Option<Notice>
-    ensures { result ≡ hindering notices.now gate s e }
-{
-    for notice in notices {
-        if !notice.is_clear_of(gate, s, e) {
-            return Some(*notice);
-        }
+impl<B> Noticed<B> {
+    // The first notice in the way of a passage.
+    fn hindrance(&self, gate: Gate, passage: (Instant, Instant)) -> Option<Notice>
+        ensures { result ≡ hindering self.now.notices.items gate passage.0 passage.1 }
+    {
+        self.notices
+            .iter()
+            .copied()
+            .find(|notice| !notice.is_clear_of(gate, passage))
     }
-    None
 }
 
 impl<B: Book> Book for Noticed<B> {
@@ -42,22 +43,22 @@ impl<B: Book> Book for Noticed<B> {
     fn first(&self, gate: Gate, t: Instant) -> Option<(Instant, Instant)> {
         let mut from = t;
         for _step in 0..self.notices.len() + 1 {
-            let (s, e) = self.book.first(gate, from)?;
-            match hindrance(&self.notices, gate, s, e) {
-                None => return Some((s, e)),
+            let earliest = self.book.first(gate, from)?;
+            match self.hindrance(gate, earliest) {
+                None => return Some(earliest),
                 Some(notice) => from = notice.end,
             }
         }
         None
     }
 
-    // The same backwards.
+    // The same backwards. One loop for both would take two closures and a law of each direction.
     fn last(&self, gate: Gate, t: Instant) -> Option<(Instant, Instant)> {
         let mut by = t;
         for _step in 0..self.notices.len() + 1 {
-            let (s, e) = self.book.last(gate, by)?;
-            match hindrance(&self.notices, gate, s, e) {
-                None => return Some((s, e)),
+            let latest = self.book.last(gate, by)?;
+            match self.hindrance(gate, latest) {
+                None => return Some(latest),
                 Some(notice) => by = notice.begin,
             }
         }
