@@ -1,5 +1,6 @@
 pub mod Refusals
 pub mod Reckonings
+pub mod Headings
 pub mod Journeys
 pub mod Routes
 pub mod Charts
