@@ -118,17 +118,11 @@ fn plan(rt: &HostRuntime) -> io::Result<()> {
     deliver(rt, &mut planner, &mut cells, &mut legs)
 }
 
-// One book for each kind of fault.
-fn check_faulty(rt: &HostRuntime) -> io::Result<()> {
+fn main(rt: HostRuntime) -> io::Result<()> {
+    plan(&rt)?;
     for sample in faulty_books() {
         println!(rt; "{sample}")?;
     }
-    Ok(())
-}
-
-fn main(rt: HostRuntime) -> io::Result<()> {
-    plan(&rt)?;
-    check_faulty(&rt)?;
     let count = worked_examples();
     println!(rt; "{count} worked examples hold")
 }
