@@ -15,6 +15,8 @@ use planner::trips::Trip;
 use search::reaches::Reach;
 use std::io;
 
+// Planner, cells and legs are parameters of their own: as a struct's fields, each function would have to promise that it leaves
+// the others alone.
 pub(crate) fn lay<B: Book>(
     rt: &HostRuntime,
     planner: &mut Planner<B>,
@@ -26,6 +28,7 @@ pub(crate) fn lay<B: Book>(
     println!(rt; "lay {reach}: {}", Reply { outcome })
 }
 
+// `post` and `lift` are two functions: one for both calls would take six parameters for its two lines.
 pub(crate) fn post<B: Book>(
     rt: &HostRuntime,
     planner: &mut Planner<B>,
@@ -70,6 +73,7 @@ fn show(
     Ok(())
 }
 
+// The three questions share `show`; with the call passed in as well, one function would have seven parameters.
 pub(crate) fn foremost<B: Book>(
     rt: &HostRuntime,
     planner: &Planner<B>,

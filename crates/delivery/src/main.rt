@@ -2,27 +2,21 @@
 #![tactic(auto)]
 
 use crate::calls::{fewest, foremost, latest, lay, lift, post};
-use books::book::{Book, Gate, Instant};
+use books::book::{Book, Instant};
 use books::tides::TideBook;
 use books::windows::{Window, WindowBook};
 use layers::notices::Notice;
 use layers::two_books::TwoBooks;
 use planner::charts::Planner;
-use planner::legs::Leg;
+use planner::legs::{Leg, NO_LEG};
 use planner::trips::Trip;
 use planner::worked::worked_examples;
 use samples::{Sample, TIDE, WINDOW, faulty_books};
-use search::reaches::{Place, Reach};
+use search::reaches::Reach;
 use std::io;
 
 mod calls;
 mod texts;
-
-const BLANK: Leg = Leg {
-    reach: 0,
-    entry: 0,
-    exit: 0,
-};
 
 const SHUT: Notice = Notice {
     gate: 2,
@@ -30,17 +24,12 @@ const SHUT: Notice = Notice {
     end: 200,
 };
 
-fn reach(from: Place, to: Place, gate: Gate) -> Reach {
-    Reach { from, to, gate }
-}
-
 // Three ways between three places; some calls are declined.
 fn lay_chart<B: Book>(rt: &HostRuntime, planner: &mut Planner<B>) -> io::Result<()> {
-    lay(rt, planner, reach(0, 1, 0))?;
-    lay(rt, planner, reach(1, 2, 2))?;
-    lay(rt, planner, reach(0, 64, 1))?;
-    lay(rt, planner, reach(0, 2, 3))?;
-    lay(rt, planner, reach(0, 2, 1))
+    for (from, to, gate) in [(0, 1, 0), (1, 2, 2), (0, 64, 1), (0, 2, 3), (0, 2, 1)] {
+        lay(rt, planner, Reach { from, to, gate })?;
+    }
+    Ok(())
 }
 
 // The delivery from place 0 to place 2, with a notice on the tide gate put up and taken down.
@@ -101,19 +90,22 @@ fn plan(rt: &HostRuntime) -> io::Result<()> {
     let tides = [TIDE];
     let timed = WindowBook::new(&passages, &windows);
     let tidal = TideBook::new(&tides);
-    let timed_sample = Sample {
-        name: "the timed gates and their windows",
-        found: timed.check(),
-    };
-    let tidal_sample = Sample {
-        name: "the tide gate",
-        found: tidal.check(),
-    };
-    println!(rt; "{timed_sample}")?;
-    println!(rt; "{tidal_sample}")?;
+    let checks = [
+        Sample {
+            name: "the timed gates and their windows",
+            found: timed.check(),
+        },
+        Sample {
+            name: "the tide gate",
+            found: tidal.check(),
+        },
+    ];
+    for check in checks {
+        println!(rt; "{check}")?;
+    }
     let mut planner = Planner::new(rt.alloc(), TwoBooks::new(timed, tidal))?;
     let mut cells = [None; 4096];
-    let mut legs = [BLANK; 63];
+    let mut legs = [NO_LEG; 63];
     lay_chart(rt, &mut planner)?;
     deliver(rt, &mut planner, &mut cells, &mut legs)
 }

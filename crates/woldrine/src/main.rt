@@ -55,16 +55,20 @@ fn travel(rt: &HostRuntime) -> io::Result<()> {
     };
     go_out(rt, way)?;
     go_back(rt, way, 300)?;
-    let timed = Sample {
-        name: "the timed gate and its window",
-        found: timed.check(),
-    };
-    let tidal = Sample {
-        name: "the tide gate",
-        found: tidal.check(),
-    };
-    println!(rt; "{timed}")?;
-    println!(rt; "{tidal}")
+    let checks = [
+        Sample {
+            name: "the timed gate and its window",
+            found: timed.check(),
+        },
+        Sample {
+            name: "the tide gate",
+            found: tidal.check(),
+        },
+    ];
+    for check in checks {
+        println!(rt; "{check}")?;
+    }
+    Ok(())
 }
 
 fn notice(gate: Gate, begin: Instant, end: Instant) -> Notice {
