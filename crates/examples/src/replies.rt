@@ -52,7 +52,7 @@ impl fmt::Display for Reply<'_> {
                 write!(f, "{departure} {arrival} {reaches}{legs}")
             }
             Reply::Declined(refusal) => {
-                let number = refusal.number();
+                let number = u16::from(refusal);
                 write!(f, "declined {number}")
             }
         }

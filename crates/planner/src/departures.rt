@@ -4,10 +4,11 @@ ghost use Rattle.planner.specs.Charts.{Charted};
 ghost use Rattle.planner.specs.Departures.{ArrivesFirst, LeavesLast, FastestChoice};
 
 use crate::reckonings::{EarliestArrival, LatestDeparture};
+use crate::trips::Trip;
 use crate::ways::label_at;
 use books::book::{Book, Instant, LAST_INSTANT};
 use search::reaches::{Direction, Place, Reach};
-use search::rows::{first_row, next_row, search};
+use search::rows::{Search, first_row};
 
 // The latest departure that still arrives at e, where a journey that is ready at d does.
 fn leaving_for<B: Book>(
@@ -25,7 +26,13 @@ fn leaving_for<B: Book>(
     ensures first { ArrivesFirst reaches.now (B.Book.exits book.now) from to result e }
 {
     let by = LatestDeparture { book };
-    let last = search(&by, Direction::Against, reaches, to, e, cells).unwrap();
+    let last = Search {
+        by: &by,
+        direction: Direction::Against,
+        reaches,
+    }
+    .run(to, e, cells)
+    .unwrap();
     label_at(cells, last, from).unwrap()
 }
 
@@ -33,34 +40,37 @@ fn leaving_for<B: Book>(
 pub(crate) fn fastest_departure<B: Book>(
     book: &B,
     reaches: &[Reach],
-    from: Place,
-    to: Place,
-    ready: Instant,
+    trip: Trip,
     cells: &mut [Option<Instant>],
 ) -> Option<Instant>
-    requires asked { (from < 64) × ((to < 64) × ((ready ≤ 20160) × (4096 ≤ length cells.old))) }
+    requires asked { (trip.from < 64) × ((trip.to < 64) × ((trip.instant ≤ 20160) × (4096 ≤ length cells.old))) }
     requires charted { Charted reaches.now }
-    ensures { FastestChoice reaches.now (B.Book.exits book.now) from to ready result }
+    ensures { FastestChoice reaches.now (B.Book.exits book.now) trip.from trip.to trip.instant result }
 {
     let by = EarliestArrival { book };
+    let search = Search {
+        by: &by,
+        direction: Direction::Along,
+        reaches,
+    };
     let mut best = None;
     let mut time = LAST_INSTANT + 1;
-    let mut d = ready;
+    let mut d = trip.instant;
     'departures: while time > 0 && d <= LAST_INSTANT {
-        let _ = first_row(cells, from, d);
+        let _ = first_row(cells, trip.from, d);
         let mut last = 0;
         'rounds: for k in 1..64 {
-            let told = next_row(&by, Direction::Along, reaches, cells, k);
+            let told = search.next_row(cells, k);
             last = k;
             if !told {
                 break 'rounds;
             }
         }
-        let Some(arrival) = label_at(cells, last, to) else {
+        let Some(arrival) = label_at(cells, last, trip.to) else {
             break 'departures;
         };
         if arrival - d < time {
-            let leaves = leaving_for(book, reaches, from, to, d, arrival, cells);
+            let leaves = leaving_for(book, reaches, trip.from, trip.to, d, arrival, cells);
             best = Some(leaves);
             time = arrival - leaves;
         }

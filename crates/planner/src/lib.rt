@@ -3,8 +3,10 @@
 
 pub mod charts;
 mod departures;
+mod headings;
 pub mod legs;
 pub mod reckonings;
 pub mod refusals;
+pub mod trips;
 mod ways;
 pub mod worked;

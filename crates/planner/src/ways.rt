@@ -13,10 +13,10 @@ ghost use Rattle.planner.specs.Ways.{wanted_of, LeastRow, Reached, LegAlong, Leg
 
 use crate::legs::{Answer, Leg};
 use crate::reckonings::{EarliestArrival, LatestDeparture};
+use crate::trips::Trip;
 use books::book::{Book, Instant};
 use search::reaches::{Direction, Place, Reach};
-use search::rows::search;
-use search::ways::back_step;
+use search::rows::Search;
 
 // What counts first in a journey; the other counts second.
 #[derive(Clone, Copy)]
@@ -89,7 +89,13 @@ fn leg_along<B: Book>(
     ensures { (a t z : ℕ) → Reached no_later (comes_out (B.Book.exits book.now)) (all_turned Along reaches.now) cells.now a t row place z → LegAlong reaches.now (B.Book.exits book.now) cells.now a t row place z result.0 result.1 }
 {
     let by = EarliestArrival { book };
-    let n = back_step(&by, Direction::Along, reaches, cells, row, place).unwrap();
+    let n = Search {
+        by: &by,
+        direction: Direction::Along,
+        reaches,
+    }
+    .back_step(cells, row, place)
+    .unwrap();
     let reach = reaches[n];
     let here = cells[64 * (row - 1) + usize::from(reach.from)].unwrap();
     let (entry, exit) = book.first(reach.gate, here).unwrap();
@@ -114,7 +120,13 @@ fn leg_against<B: Book>(
     ensures { (b t z : ℕ) → Reached no_sooner (goes_in (B.Book.exits book.now)) (all_turned Against reaches.now) cells.now b t row place z → LegAgainst reaches.now (B.Book.exits book.now) cells.now b t row place z result.0 result.1 }
 {
     let by = LatestDeparture { book };
-    let n = back_step(&by, Direction::Against, reaches, cells, row, place).unwrap();
+    let n = Search {
+        by: &by,
+        direction: Direction::Against,
+        reaches,
+    }
+    .back_step(cells, row, place)
+    .unwrap();
     let reach = reaches[n];
     let here = cells[64 * (row - 1) + usize::from(reach.to)].unwrap();
     let (entry, exit) = book.last(reach.gate, here).unwrap();
@@ -205,46 +217,52 @@ pub(crate) fn way_ahead<B: Book>(
     book: &B,
     reaches: &[Reach],
     aim: Aim,
-    from: Place,
-    to: Place,
-    ready: Instant,
+    trip: Trip,
     cells: &mut [Option<Instant>],
     legs: &mut [Leg],
 ) -> Option<Answer>
-    requires asked { (from < 64) × ((to < 64) × (ready ≤ 20160)) }
+    requires asked { (trip.from < 64) × ((trip.to < 64) × (trip.instant ≤ 20160)) }
     requires sizes { (length reaches.now ≤ 256) × ((4096 ≤ length cells.old) × (63 ≤ length legs.old)) }
     requires charted { Charted reaches.now }
-    ensures found { LookedFor reaches.now (B.Book.exits book.now) from to ready (Ready ready) (AheadUnbeaten aim reaches.now (B.Book.exits book.now) from to ready) (along reaches.now (B.Book.exits book.now) ready) legs.old legs.new result }
-    ensures figures { arrival_figures result ≡ ahead_figures aim reaches.now (B.Book.exits book.now) from to ready }
+    ensures found { LookedFor reaches.now (B.Book.exits book.now) trip.from trip.to trip.instant (Ready trip.instant) (AheadUnbeaten aim reaches.now (B.Book.exits book.now) trip.from trip.to trip.instant) (along reaches.now (B.Book.exits book.now) trip.instant) legs.old legs.new result }
+    ensures figures { arrival_figures result ≡ ahead_figures aim reaches.now (B.Book.exits book.now) trip.from trip.to trip.instant }
 {
     let by = EarliestArrival { book };
-    let last = search(&by, Direction::Along, reaches, from, ready, cells)?;
-    let wanted = wanted_label(aim, cells, last, to);
-    let row = least_row(cells, last, to, wanted)?;
-    write_along(book, reaches, cells, row, to, legs);
-    Some(figures_of(&legs[0..row], ready))
+    let last = Search {
+        by: &by,
+        direction: Direction::Along,
+        reaches,
+    }
+    .run(trip.from, trip.instant, cells)?;
+    let wanted = wanted_label(aim, cells, last, trip.to);
+    let row = least_row(cells, last, trip.to, wanted)?;
+    write_along(book, reaches, cells, row, trip.to, legs);
+    Some(figures_of(&legs[0..row], trip.instant))
 }
 
 // The journey with the latest departure that arrives by an instant.
 pub(crate) fn way_back<B: Book>(
     book: &B,
     reaches: &[Reach],
-    from: Place,
-    to: Place,
-    due: Instant,
+    trip: Trip,
     cells: &mut [Option<Instant>],
     legs: &mut [Leg],
 ) -> Option<Answer>
-    requires asked { (from < 64) × ((to < 64) × (due ≤ 20160)) }
+    requires asked { (trip.from < 64) × ((trip.to < 64) × (trip.instant ≤ 20160)) }
     requires sizes { (length reaches.now ≤ 256) × ((4096 ≤ length cells.old) × (63 ≤ length legs.old)) }
     requires charted { Charted reaches.now }
-    ensures found { LookedFor reaches.now (B.Book.exits book.now) from to due (Due due) (λ ans. LatestUnbeaten reaches.now (B.Book.exits book.now) from to due ans.departure ans.reaches) (against reaches.now (B.Book.exits book.now) due) legs.old legs.new result }
-    ensures figures { departure_figures result ≡ latest_figures reaches.now (B.Book.exits book.now) from to due }
+    ensures found { LookedFor reaches.now (B.Book.exits book.now) trip.from trip.to trip.instant (Due trip.instant) (λ ans. LatestUnbeaten reaches.now (B.Book.exits book.now) trip.from trip.to trip.instant ans.departure ans.reaches) (against reaches.now (B.Book.exits book.now) trip.instant) legs.old legs.new result }
+    ensures figures { departure_figures result ≡ latest_figures reaches.now (B.Book.exits book.now) trip.from trip.to trip.instant }
 {
     let by = LatestDeparture { book };
-    let last = search(&by, Direction::Against, reaches, to, due, cells)?;
-    let wanted = wanted_label(Aim::Time, cells, last, from);
-    let row = least_row(cells, last, from, wanted)?;
-    write_against(book, reaches, cells, row, from, legs);
-    Some(figures_of(&legs[0..row], due))
+    let last = Search {
+        by: &by,
+        direction: Direction::Against,
+        reaches,
+    }
+    .run(trip.to, trip.instant, cells)?;
+    let wanted = wanted_label(Aim::Time, cells, last, trip.from);
+    let row = least_row(cells, last, trip.from, wanted)?;
+    write_against(book, reaches, cells, row, trip.from, legs);
+    Some(figures_of(&legs[0..row], trip.instant))
 }
