@@ -11,8 +11,8 @@ use Rattle.planner.specs.declared.refusals.Refusal.{Refusal}
 use Rattle.examples.specs.declared.cases.Ask.{Ask}
 use Rattle.examples.specs.declared.cases.Ask.TheVariants.{Foremost, Fewest, Latest}
 use Rattle.examples.specs.declared.cases.Question.{Question}
-use Rattle.examples.specs.declared.replies.Reply.{Reply}
-use Rattle.examples.specs.declared.replies.Reply.TheVariants.{Laid, Posted, Lifted, Found, Declined}
+use Rattle.examples.specs.declared.replies.Done.{Done}
+use Rattle.examples.specs.declared.replies.Done.TheVariants.{Laid, Posted, Lifted, Found}
 
 -- the figures of an answer in which ties leave no freedom, or the number with which the question is declined
 abbrev pub told_answer : Ask → Result Answer Refusal → Told
@@ -39,10 +39,10 @@ QuestionOutcome rs ex q cells cells' old new r =
     ]
 
 -- the reply: a journey, with the figures that it must have, and its legs; or the number
-abbrev pub Answered : ℕ → ℕ → List Reach → Exits → Question → Reply → Type 0
-Answered cells legs rs ex q (Laid n) = ⊥
-Answered cells legs rs ex q Posted = ⊥
-Answered cells legs rs ex q Lifted = ⊥
-Answered cells legs rs ex q (Found ans ls) =
+abbrev pub Answered : ℕ → ℕ → List Reach → Exits → Question → Result Done Refusal → Type 0
+Answered cells legs rs ex q (Ok (Laid n)) = ⊥
+Answered cells legs rs ex q (Ok Posted) = ⊥
+Answered cells legs rs ex q (Ok Lifted) = ⊥
+Answered cells legs rs ex q (Ok (Found ans ls)) =
     (told_answer q.ask (Ok ans) ≡ question_reply cells legs rs ex q) × Journey rs ex q.from q.to ans.departure ans.arrival ls.now
-Answered cells legs rs ex q (Declined f) = told_answer q.ask (Err f) ≡ question_reply cells legs rs ex q
+Answered cells legs rs ex q (Err f) = told_answer q.ask (Err f) ≡ question_reply cells legs rs ex q

@@ -1,11 +1,12 @@
 -- What a reply is printed as. Assumes nothing.
-use Rattle.std.specs.Prelude.{ℕ, List, ◌++◌, codes, decimal}
+use Rattle.std.specs.Prelude.{ℕ, List, ◌++◌, Ok, Err, Result, codes, decimal}
 use Rattle.std.specs.List.{flat_map}
 use Rattle.planner.specs.Refusals.{number}
 use Rattle.planner.specs.declared.legs.Answer.{Answer}
 use Rattle.planner.specs.declared.legs.Leg.{Leg}
-use Rattle.examples.specs.declared.replies.Reply.{Reply}
-use Rattle.examples.specs.declared.replies.Reply.TheVariants.{Laid, Posted, Lifted, Found, Declined}
+use Rattle.planner.specs.declared.refusals.Refusal.{Refusal}
+use Rattle.examples.specs.declared.replies.Done.{Done}
+use Rattle.examples.specs.declared.replies.Done.TheVariants.{Laid, Posted, Lifted, Found}
 
 -- a leg: its reach, entry and exit
 abbrev pub leg_text : Leg → List ℕ
@@ -18,9 +19,10 @@ legs_text ls = flat_map leg_text ls
 abbrev pub journey_text : Answer → List Leg → List ℕ
 journey_text ans ls = decimal ans.departure ++ (codes " " ++ (decimal ans.arrival ++ (codes " " ++ (decimal ans.reaches ++ legs_text ls))))
 
-abbrev pub reply_text : Reply → List ℕ
-reply_text (Laid n) = codes "reach " ++ decimal n
-reply_text Posted = codes "posted"
-reply_text Lifted = codes "lifted"
-reply_text (Found ans legs) = journey_text ans legs.now
-reply_text (Declined f) = codes "declined " ++ decimal (number f)
+-- what was done or found, or the number with which the call is declined
+abbrev pub reply_text : Result Done Refusal → List ℕ
+reply_text (Ok (Laid n)) = codes "reach " ++ decimal n
+reply_text (Ok Posted) = codes "posted"
+reply_text (Ok Lifted) = codes "lifted"
+reply_text (Ok (Found ans legs)) = journey_text ans legs.now
+reply_text (Err f) = codes "declined " ++ decimal (number f)

@@ -3,6 +3,7 @@ ghost use Rattle.std.specs.Prelude.{◌≡◌, IfOk, OnOk};
 ghost use Rattle.examples.specs.Records.{lists, nothing, added, gathered};
 
 use crate::cases::{Case, Line, Record};
+use crate::reading::Unreadable;
 use books::tides::Tide;
 use books::windows::Window;
 use std::alloc::{AllocError, Global};
@@ -16,13 +17,13 @@ pub(crate) struct Records {
 
 impl Records {
     // Takes up the line's record, if it is one.
-    fn add(&mut self, line: Option<Line>) -> Result<(), AllocError>
+    fn add(&mut self, line: Result<Line, Unreadable>) -> Result<(), AllocError>
         ensures { OnOk result (lists self.new ≡ added line (lists self.old)) }
     {
         match line {
-            Some(Line::Record(Record::Timed(passage))) => self.passages.push(passage)?,
-            Some(Line::Record(Record::Window(window))) => self.windows.push(window)?,
-            Some(Line::Record(Record::Tide(tide))) => self.tides.push(tide)?,
+            Ok(Line::Record(Record::Timed(passage))) => self.passages.push(passage)?,
+            Ok(Line::Record(Record::Window(window))) => self.windows.push(window)?,
+            Ok(Line::Record(Record::Tide(tide))) => self.tides.push(tide)?,
             _ => {}
         }
         Ok(())

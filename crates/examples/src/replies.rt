@@ -1,10 +1,21 @@
-// What a reply is printed as.
+// What a call replies, and how it is printed.
 ghost use Rattle.std.specs.Prelude.{Some};
 ghost use Rattle.examples.specs.Texts.{legs_text, reply_text};
 
 use planner::legs::{Answer, Leg};
 use planner::refusals::Refusal;
 use std::fmt;
+
+// What a call tells that isn't declined.
+#[derive(Clone, Copy)]
+pub(crate) enum Done<'a> {
+    // a reach was laid, with this number
+    Laid(u16),
+    Posted,
+    Lifted,
+    // a journey, with its legs
+    Found(Answer, &'a [Leg]),
+}
 
 #[derive(Clone, Copy)]
 struct Legs<'a> {
@@ -25,33 +36,26 @@ impl fmt::Display for Legs<'_> {
     }
 }
 
+// The reply to a call, as it is printed.
 #[derive(Clone, Copy)]
-pub(crate) enum Reply<'a> {
-    // a reach was laid, with this number
-    Laid(u16),
-    Posted,
-    Lifted,
-    // a journey, with its legs
-    Found(Answer, &'a [Leg]),
-    Declined(Refusal),
-}
+pub(crate) struct Reply<'a>(pub(crate) Result<Done<'a>, Refusal>);
 
 impl fmt::Display for Reply<'_> {
-    ghost output = { λ r. Some (reply_text r) };
+    ghost output = { λ r. Some (reply_text r.0) };
 
     fn fmt<W: fmt::Write>(&self, f: &mut fmt::Formatter<W>) -> fmt::Result {
-        match self {
-            Reply::Laid(number) => write!(f, "reach {number}"),
-            Reply::Posted => f.write_str("posted"),
-            Reply::Lifted => f.write_str("lifted"),
-            Reply::Found(answer, legs) => {
+        match self.0 {
+            Ok(Done::Laid(number)) => write!(f, "reach {number}"),
+            Ok(Done::Posted) => f.write_str("posted"),
+            Ok(Done::Lifted) => f.write_str("lifted"),
+            Ok(Done::Found(answer, legs)) => {
                 let departure = answer.departure;
                 let arrival = answer.arrival;
                 let reaches = answer.reaches;
                 let legs = Legs { legs };
                 write!(f, "{departure} {arrival} {reaches}{legs}")
             }
-            Reply::Declined(refusal) => {
+            Err(refusal) => {
                 let number = refusal.number();
                 write!(f, "declined {number}")
             }

@@ -6,7 +6,7 @@ ghost use Rattle.examples.specs.Calls.{Replied};
 ghost use Rattle.examples.specs.Questions.{told_answer, question_reply, QuestionOutcome, Answered};
 
 use crate::cases::{Ask, Call, Question};
-use crate::replies::Reply;
+use crate::replies::Done;
 use crate::sheets::Sheet;
 use books::book::{Book, Instant};
 use planner::charts::Planner;
@@ -34,22 +34,20 @@ fn ask<B: Book>(
 }
 
 impl<B: Book> Sheet<B> {
-    fn answer(&mut self, question: Question) -> Reply<'_>
+    fn answer(&mut self, question: Question) -> Result<Done<'_>, Refusal>
         ensures { Answered (vec_len self.old.cells) (vec_len self.old.legs) self.old.planner.reaches.items (noticed_exits self.old.planner.noticed.notices.items (B.Book.exits self.old.planner.noticed.book)) question result }
     {
         let legs = self.legs.as_mut_slice();
-        match ask(&self.planner, question, &mut self.cells, legs) {
-            Ok(answer) => Reply::Found(answer, &legs[0..usize::from(answer.reaches)]),
-            Err(refusal) => Reply::Declined(refusal),
-        }
+        let answer = ask(&self.planner, question, &mut self.cells, legs)?;
+        Ok(Done::Found(answer, &legs[..usize::from(answer.reaches)]))
     }
 
-    pub(crate) fn call(&mut self, call: Call) -> Reply<'_>
+    pub(crate) fn call(&mut self, call: Call) -> Result<Done<'_>, Refusal>
         ensures { Replied (B.Book.gates self.old.planner.noticed.book) (B.Book.exits self.old.planner.noticed.book) self.old.planner.reaches.items self.old.planner.noticed.notices.items (vec_len self.old.cells) (vec_len self.old.legs) call result }
     {
         match call {
             Call::Change(change) => self.change(change),
-            Call::Series(count, series) => self.repeat(count, series),
+            Call::Repeat(repeat) => self.repeat(repeat),
             Call::Question(question) => self.answer(question),
         }
     }
