@@ -1,5 +1,6 @@
 pub mod Meaning
 pub mod Told
+pub mod Texts
 pub mod Faults
 pub mod Records
 pub mod Windows

@@ -10,15 +10,15 @@ use Rattle.examples.specs.declared.series.Change.TheVariants.{Lay, Post, Lift}
 use Rattle.examples.specs.declared.series.Series.{Series}
 
 -- the text for what was done, or the number with which it is declined
-abbrev pub done_text : List ℕ → Option ℕ → List ℕ
-done_text done None = done
-done_text done (Some f) = codes "declined " ++ decimal f
+abbrev pub unless_declined : List ℕ → Option ℕ → List ℕ
+unless_declined done None = done
+unless_declined done (Some f) = codes "declined " ++ decimal f
 
 -- the text of the reply to a change
 abbrev pub change_text : ℕ → List Reach → List Notice → Change → List ℕ
-change_text gates rs ns (Lay r) = done_text (codes "reach " ++ decimal (length rs)) (lay_refusal gates rs r)
-change_text gates rs ns (Post n) = done_text (codes "posted") (post_refusal gates ns n)
-change_text gates rs ns (Lift n) = done_text (codes "lifted") (lift_refusal ns n)
+change_text gates rs ns (Lay r) = unless_declined (codes "reach " ++ decimal (length rs)) (lay_refusal gates rs r)
+change_text gates rs ns (Post n) = unless_declined (codes "posted") (post_refusal gates ns n)
+change_text gates rs ns (Lift n) = unless_declined (codes "lifted") (lift_refusal ns n)
 
 -- the chart after it
 abbrev pub chart_after : ℕ → List Reach → Change → List Reach

@@ -2,11 +2,11 @@
 use crate::cases::{Case, Line, Room};
 use crate::reading::Unreadable;
 use crate::records::Records;
-use crate::replies::Reply;
 use crate::sheets::Sheet;
 use books::book::Book;
 use books::tides::TideBook;
 use books::windows::WindowBook;
+use layers::replies::Reply;
 use layers::two_books::TwoBooks;
 use planner::legs::MOST_LEGS;
 use search::rows::CELLS;
@@ -23,7 +23,9 @@ fn carry_out<B: Book>(rt: &HostRuntime, sheet: &mut Sheet<B>, case: Case<'_>) ->
             println!(rt; "{text}")
         }
         Ok(Line::Call(call)) => {
-            let reply = Reply(sheet.call(call));
+            let reply = Reply {
+                outcome: sheet.call(call),
+            };
             println!(rt; "{text}: {reply}")
         }
     }

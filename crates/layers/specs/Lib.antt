@@ -1,5 +1,6 @@
 pub mod TwoBooks
 pub mod Notices
+pub mod Texts
 pub mod Worked
 pub mod TwoLaws
 pub mod NoticeLaws

@@ -2,6 +2,7 @@
 #![tactic(auto)]
 
 pub mod notices;
+pub mod replies;
 #[cfg(test)]
 mod tests;
 pub mod two_books;

@@ -1,4 +1,5 @@
 pub mod Refusals
+pub mod Texts
 pub mod Reckonings
 pub mod Journeys
 pub mod Routes

@@ -1,13 +1,15 @@
 // Why a call is declined.
-ghost use Rattle.std.specs.Prelude.{◌≡◌};
+ghost use Rattle.std.specs.Prelude.{◌≡◌, Some};
 ghost use Rattle.std.specs.Option.{option_map};
 ghost use Rattle.planner.specs.Refusals.{number, question_fault};
+ghost use Rattle.planner.specs.Texts.{refusal_text};
 
 use crate::legs::MOST_LEGS;
 use books::book::{Instant, LAST_INSTANT};
 use layers::notices::refusals::Refusal as LayerRefusal;
 use search::reaches::{PLACES, Place};
 use search::rows::CELLS;
+use std::fmt;
 
 #[derive(Clone, Copy, PartialEq, Eq, Debug)]
 pub enum Refusal {
@@ -27,19 +29,28 @@ pub enum Refusal {
     Layer(LayerRefusal),
 }
 
-impl Refusal {
-    pub fn number(self) -> u16
-        ensures { result ≡ number self }
-    {
-        match self {
+impl From<Refusal> for u16 {
+    ghost from_gives = { λ refusal given. given ≡ number refusal };
+
+    fn from(refusal: Refusal) -> u16 {
+        match refusal {
             Refusal::FewCells => 1,
             Refusal::FewLegs => 2,
             Refusal::NoPlace => 3,
             Refusal::NoInstant => 4,
             Refusal::NoJourney => 5,
             Refusal::ChartFull => 6,
-            Refusal::Layer(refusal) => refusal.number(),
+            Refusal::Layer(refusal) => u16::from(refusal),
         }
+    }
+}
+
+// Its number.
+impl fmt::Display for Refusal {
+    ghost output = { λ refusal. Some (refusal_text refusal) };
+
+    fn fmt<W: fmt::Write>(&self, f: &mut fmt::Formatter<W>) -> fmt::Result {
+        write!(f, "{}", u16::from(*self))
     }
 }
 

@@ -1,5 +1,6 @@
 pub mod Laws
 pub mod Reaches
+pub mod Texts
 pub mod Rows
 pub mod Walks
 pub mod Filled

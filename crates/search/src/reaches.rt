@@ -1,6 +1,9 @@
 // Reaches, and the direction in which a search goes over them.
-ghost use Rattle.std.specs.Prelude.{◌≡◌};
+ghost use Rattle.std.specs.Prelude.{◌≡◌, Some};
 ghost use Rattle.search.specs.Reaches.{turned};
+ghost use Rattle.search.specs.Texts.{reach_text};
+
+use std::fmt;
 
 // One of the 64 places, 0 to 63.
 pub type Place = u16;
@@ -17,6 +20,18 @@ pub struct Reach {
     pub from: Place,
     pub to: Place,
     pub gate: Gate,
+}
+
+impl fmt::Display for Reach {
+    ghost output = { λ reach. Some (reach_text reach) };
+
+    fn fmt<W: fmt::Write>(&self, f: &mut fmt::Formatter<W>) -> fmt::Result {
+        write!(
+            f,
+            "from {} to {} behind gate {}",
+            self.from, self.to, self.gate
+        )
+    }
 }
 
 // Whether a search goes along the reaches or against them.
