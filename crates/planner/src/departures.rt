@@ -4,6 +4,7 @@ ghost use Rattle.planner.specs.Charts.{Charted};
 ghost use Rattle.planner.specs.Departures.{ArrivesFirst, LeavesLast, FastestChoice};
 
 use crate::reckonings::{EarliestArrival, LatestDeparture};
+use crate::trips::Trip;
 use crate::ways::label_at;
 use books::book::{Book, Instant, LAST_INSTANT};
 use search::reaches::{Direction, Place, Reach};
@@ -33,21 +34,19 @@ fn leaving_for<B: Book>(
 pub(crate) fn fastest_departure<B: Book>(
     book: &B,
     reaches: &[Reach],
-    from: Place,
-    to: Place,
-    ready: Instant,
+    trip: Trip,
     cells: &mut [Option<Instant>],
 ) -> Option<Instant>
-    requires asked { (from < 64) × ((to < 64) × ((ready ≤ 20160) × (4096 ≤ length cells.old))) }
+    requires asked { (trip.from < 64) × ((trip.to < 64) × ((trip.instant ≤ 20160) × (4096 ≤ length cells.old))) }
     requires charted { Charted reaches.now }
-    ensures { FastestChoice reaches.now (B.Book.exits book.now) from to ready result }
+    ensures { FastestChoice reaches.now (B.Book.exits book.now) trip.from trip.to trip.instant result }
 {
     let by = EarliestArrival { book };
     let mut best = None;
     let mut time = LAST_INSTANT + 1;
-    let mut d = ready;
+    let mut d = trip.instant;
     'departures: while time > 0 && d <= LAST_INSTANT {
-        let _ = first_row(cells, from, d);
+        let _ = first_row(cells, trip.from, d);
         let mut last = 0;
         'rounds: for k in 1..64 {
             let told = next_row(&by, Direction::Along, reaches, cells, k);
@@ -56,11 +55,11 @@ pub(crate) fn fastest_departure<B: Book>(
                 break 'rounds;
             }
         }
-        let Some(arrival) = label_at(cells, last, to) else {
+        let Some(arrival) = label_at(cells, last, trip.to) else {
             break 'departures;
         };
         if arrival - d < time {
-            let leaves = leaving_for(book, reaches, from, to, d, arrival, cells);
+            let leaves = leaving_for(book, reaches, trip.from, trip.to, d, arrival, cells);
             best = Some(leaves);
             time = arrival - leaves;
         }

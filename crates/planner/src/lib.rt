@@ -6,5 +6,6 @@ mod departures;
 pub mod legs;
 pub mod reckonings;
 pub mod refusals;
+pub mod trips;
 mod ways;
 pub mod worked;

@@ -1,14 +1,10 @@
 // Why a call is declined.
 ghost use Rattle.std.specs.Prelude.{◌≡◌, Some};
-ghost use Rattle.std.specs.Option.{option_map};
-ghost use Rattle.planner.specs.Refusals.{number, question_fault};
+ghost use Rattle.planner.specs.Refusals.{number};
 ghost use Rattle.planner.specs.Texts.{refusal_text};
+ghost use Rattle.planner.specs.declared.refusals.Refusal.TheVariants.{Layer};
 
-use crate::legs::MOST_LEGS;
-use books::book::{Instant, LAST_INSTANT};
 use layers::notices::refusals::Refusal as LayerRefusal;
-use search::reaches::{PLACES, Place};
-use search::rows::CELLS;
 use std::fmt;
 
 #[derive(Clone, Copy, PartialEq, Eq, Debug)]
@@ -45,6 +41,14 @@ impl From<Refusal> for u16 {
     }
 }
 
+impl From<LayerRefusal> for Refusal {
+    ghost from_gives = { λ f r. r ≡ Layer f };
+
+    fn from(refusal: LayerRefusal) -> Refusal {
+        Refusal::Layer(refusal)
+    }
+}
+
 // Its number.
 impl fmt::Display for Refusal {
     ghost output = { λ refusal. Some (refusal_text refusal) };
@@ -52,29 +56,4 @@ impl fmt::Display for Refusal {
     fn fmt<W: fmt::Write>(&self, f: &mut fmt::Formatter<W>) -> fmt::Result {
         write!(f, "{}", u16::from(*self))
     }
-}
-
-// Why a question is declined before any journey is looked for.
-pub(crate) fn misfit(
-    cells: usize,
-    legs: usize,
-    from: Place,
-    to: Place,
-    t: Instant,
-) -> Option<Refusal>
-    ensures { option_map number result ≡ question_fault cells legs from to t }
-{
-    if cells < CELLS {
-        return Some(Refusal::FewCells);
-    }
-    if legs < MOST_LEGS {
-        return Some(Refusal::FewLegs);
-    }
-    if from >= PLACES || to >= PLACES {
-        return Some(Refusal::NoPlace);
-    }
-    if t > LAST_INSTANT {
-        return Some(Refusal::NoInstant);
-    }
-    None
 }

@@ -13,6 +13,7 @@ ghost use Rattle.planner.specs.Ways.{wanted_of, LeastRow, Reached, LegAlong, Leg
 
 use crate::legs::{Answer, Leg};
 use crate::reckonings::{EarliestArrival, LatestDeparture};
+use crate::trips::Trip;
 use books::book::{Book, Instant};
 use search::reaches::{Direction, Place, Reach};
 use search::rows::search;
@@ -205,46 +206,56 @@ pub(crate) fn way_ahead<B: Book>(
     book: &B,
     reaches: &[Reach],
     aim: Aim,
-    from: Place,
-    to: Place,
-    ready: Instant,
+    trip: Trip,
     cells: &mut [Option<Instant>],
     legs: &mut [Leg],
 ) -> Option<Answer>
-    requires asked { (from < 64) × ((to < 64) × (ready ≤ 20160)) }
+    requires asked { (trip.from < 64) × ((trip.to < 64) × (trip.instant ≤ 20160)) }
     requires sizes { (length reaches.now ≤ 256) × ((4096 ≤ length cells.old) × (63 ≤ length legs.old)) }
     requires charted { Charted reaches.now }
-    ensures found { LookedFor reaches.now (B.Book.exits book.now) from to ready (Ready ready) (AheadUnbeaten aim reaches.now (B.Book.exits book.now) from to ready) (along reaches.now (B.Book.exits book.now) ready) legs.old legs.new result }
-    ensures figures { arrival_figures result ≡ ahead_figures aim reaches.now (B.Book.exits book.now) from to ready }
+    ensures found { LookedFor reaches.now (B.Book.exits book.now) trip.from trip.to trip.instant (Ready trip.instant) (AheadUnbeaten aim reaches.now (B.Book.exits book.now) trip.from trip.to trip.instant) (along reaches.now (B.Book.exits book.now) trip.instant) legs.old legs.new result }
+    ensures figures { arrival_figures result ≡ ahead_figures aim reaches.now (B.Book.exits book.now) trip.from trip.to trip.instant }
 {
     let by = EarliestArrival { book };
-    let last = search(&by, Direction::Along, reaches, from, ready, cells)?;
-    let wanted = wanted_label(aim, cells, last, to);
-    let row = least_row(cells, last, to, wanted)?;
-    write_along(book, reaches, cells, row, to, legs);
-    Some(figures_of(&legs[0..row], ready))
+    let last = search(
+        &by,
+        Direction::Along,
+        reaches,
+        trip.from,
+        trip.instant,
+        cells,
+    )?;
+    let wanted = wanted_label(aim, cells, last, trip.to);
+    let row = least_row(cells, last, trip.to, wanted)?;
+    write_along(book, reaches, cells, row, trip.to, legs);
+    Some(figures_of(&legs[0..row], trip.instant))
 }
 
 // The journey with the latest departure that arrives by an instant.
 pub(crate) fn way_back<B: Book>(
     book: &B,
     reaches: &[Reach],
-    from: Place,
-    to: Place,
-    due: Instant,
+    trip: Trip,
     cells: &mut [Option<Instant>],
     legs: &mut [Leg],
 ) -> Option<Answer>
-    requires asked { (from < 64) × ((to < 64) × (due ≤ 20160)) }
+    requires asked { (trip.from < 64) × ((trip.to < 64) × (trip.instant ≤ 20160)) }
     requires sizes { (length reaches.now ≤ 256) × ((4096 ≤ length cells.old) × (63 ≤ length legs.old)) }
     requires charted { Charted reaches.now }
-    ensures found { LookedFor reaches.now (B.Book.exits book.now) from to due (Due due) (λ ans. LatestUnbeaten reaches.now (B.Book.exits book.now) from to due ans.departure ans.reaches) (against reaches.now (B.Book.exits book.now) due) legs.old legs.new result }
-    ensures figures { departure_figures result ≡ latest_figures reaches.now (B.Book.exits book.now) from to due }
+    ensures found { LookedFor reaches.now (B.Book.exits book.now) trip.from trip.to trip.instant (Due trip.instant) (λ ans. LatestUnbeaten reaches.now (B.Book.exits book.now) trip.from trip.to trip.instant ans.departure ans.reaches) (against reaches.now (B.Book.exits book.now) trip.instant) legs.old legs.new result }
+    ensures figures { departure_figures result ≡ latest_figures reaches.now (B.Book.exits book.now) trip.from trip.to trip.instant }
 {
     let by = LatestDeparture { book };
-    let last = search(&by, Direction::Against, reaches, to, due, cells)?;
-    let wanted = wanted_label(Aim::Time, cells, last, from);
-    let row = least_row(cells, last, from, wanted)?;
-    write_against(book, reaches, cells, row, from, legs);
-    Some(figures_of(&legs[0..row], due))
+    let last = search(
+        &by,
+        Direction::Against,
+        reaches,
+        trip.to,
+        trip.instant,
+        cells,
+    )?;
+    let wanted = wanted_label(Aim::Time, cells, last, trip.from);
+    let row = least_row(cells, last, trip.from, wanted)?;
+    write_against(book, reaches, cells, row, trip.from, legs);
+    Some(figures_of(&legs[0..row], trip.instant))
 }

@@ -50,10 +50,7 @@ impl<B: Book> Planner<B> {
         ensures book { self.new.noticed.book ≡ self.old.noticed.book }
         ensures chart { self.new.reaches.items ≡ self.old.reaches.items }
     {
-        match self.noticed.post(notice) {
-            Ok(()) => Ok(()),
-            Err(refusal) => Err(Refusal::Layer(refusal)),
-        }
+        Ok(self.noticed.post(notice)?)
     }
 
     // Takes the notice with the same three figures down.
@@ -63,9 +60,6 @@ impl<B: Book> Planner<B> {
         ensures book { self.new.noticed.book ≡ self.old.noticed.book }
         ensures chart { self.new.reaches.items ≡ self.old.reaches.items }
     {
-        match self.noticed.lift(notice) {
-            Ok(()) => Ok(()),
-            Err(refusal) => Err(Refusal::Layer(refusal)),
-        }
+        Ok(self.noticed.lift(notice)?)
     }
 }

@@ -15,8 +15,8 @@ rounds-init g c =
     let ex = g.B.Book.exits b in
     let law = g.B.Book.lawful b in
     let rs = c.args.reaches.now in
-    let from = c.args.from in
-    let to = c.args.to in
+    let from = c.args.trip.from in
+    let to = c.args.trip.to in
     let d = c.departures.d in
     let long : 4096 ≤ length c.departures.cells = omega arith in
     rounds_begin gates ex law rs from d c.departures.cells c.first_row.new.cells c.first_row.result long c.first_row.ensures
@@ -28,8 +28,8 @@ rounds-preserved g c =
     let ex = g.B.Book.exits b in
     let law = g.B.Book.lawful b in
     let rs = c.args.reaches.now in
-    let from = c.args.from in
-    let to = c.args.to in
+    let from = c.args.trip.from in
+    let to = c.args.trip.to in
     let d = c.departures.d in
     let some : 0 < c.rounds.k = omega arith in
     let long : 4096 ≤ length c.rounds.cells = omega arith in
@@ -42,8 +42,8 @@ label_at-requires g c =
     let ex = g.B.Book.exits b in
     let law = g.B.Book.lawful b in
     let rs = c.args.reaches.now in
-    let from = c.args.from in
-    let to = c.args.to in
+    let from = c.args.trip.from in
+    let to = c.args.trip.to in
     let d = c.departures.d in
     let some : 0 < c.rounds.k = omega arith in
     let long : 4096 ≤ length c.rounds.cells = omega arith in
@@ -60,8 +60,8 @@ overflow_sub-arrival g c =
     let ex = g.B.Book.exits b in
     let law = g.B.Book.lawful b in
     let rs = c.args.reaches.now in
-    let from = c.args.from in
-    let to = c.args.to in
+    let from = c.args.trip.from in
+    let to = c.args.trip.to in
     let d = c.departures.d in
     let some : 0 < c.rounds.k = omega arith in
     let long : 4096 ≤ length c.rounds.cells = omega arith in
@@ -81,8 +81,8 @@ leaving_for-leaves-requires g c =
     let ex = g.B.Book.exits b in
     let law = g.B.Book.lawful b in
     let rs = c.args.reaches.now in
-    let from = c.args.from in
-    let to = c.args.to in
+    let from = c.args.trip.from in
+    let to = c.args.trip.to in
     let d = c.departures.d in
     let some : 0 < c.rounds.k = omega arith in
     let long : 4096 ≤ length c.rounds.cells = omega arith in
@@ -105,8 +105,8 @@ overflow_add-d g c =
     let ex = g.B.Book.exits b in
     let law = g.B.Book.lawful b in
     let rs = c.args.reaches.now in
-    let from = c.args.from in
-    let to = c.args.to in
+    let from = c.args.trip.from in
+    let to = c.args.trip.to in
     let d = c.departures.d in
     let some : 0 < c.rounds.k = omega arith in
     let long : 4096 ≤ length c.rounds.cells = omega arith in
@@ -135,8 +135,8 @@ departures-preserved g c =
     let ex = g.B.Book.exits b in
     let law = g.B.Book.lawful b in
     let rs = c.args.reaches.now in
-    let from = c.args.from in
-    let to = c.args.to in
+    let from = c.args.trip.from in
+    let to = c.args.trip.to in
     let d = c.departures.d in
     let some : 0 < c.rounds.k = omega arith in
     let long : 4096 ≤ length c.rounds.cells = omega arith in
@@ -153,14 +153,14 @@ departures-preserved g c =
       | then-arrival-d w ↦
           let r = w.leaving_for-leaves.result in
           let step : w.leaving_for-leaves.result + 1 ≡ c.in-Some.arrival - c.if-arrival-d.time + 1 = omega (arith, w.time-is, w.leaving_for-leaves.ensures.first.later) in
-          let held = so_faster gates ex law rs c.requires.charted from to c.args.ready d c.departures.time c.departures.best c.departures.invariant e first w.if-arrival-d.true r w.leaving_for-leaves.ensures.since w.leaving_for-leaves.ensures.first in
-          subst (λ (o : Option ℕ). HeldSoFar rs ex from to c.args.ready (e - time + 1) o time) (sym w.best-is)
-          (subst (λ (m : ℕ). HeldSoFar rs ex from to c.args.ready m (Some r) time) step
-          (subst (λ (m : ℕ). HeldSoFar rs ex from to c.args.ready (r + 1) (Some r) m) (sym w.time-is) held))
+          let held = so_faster gates ex law rs c.requires.charted from to c.args.trip.instant d c.departures.time c.departures.best c.departures.invariant e first w.if-arrival-d.true r w.leaving_for-leaves.ensures.since w.leaving_for-leaves.ensures.first in
+          subst (λ (o : Option ℕ). HeldSoFar rs ex from to c.args.trip.instant (e - time + 1) o time) (sym w.best-is)
+          (subst (λ (m : ℕ). HeldSoFar rs ex from to c.args.trip.instant m (Some r) time) step
+          (subst (λ (m : ℕ). HeldSoFar rs ex from to c.args.trip.instant (r + 1) (Some r) m) (sym w.time-is) held))
       | else-arrival-d w ↦
-          subst (λ (o : Option ℕ). HeldSoFar rs ex from to c.args.ready (e - time + 1) o time) (sym w.best-is)
-          (subst (λ (m : ℕ). HeldSoFar rs ex from to c.args.ready (e - m + 1) c.departures.best m) (sym w.time-is)
-          (so_slower gates ex law rs c.requires.charted from to c.args.ready d c.departures.time c.departures.best c.departures.invariant e first w.if-arrival-d.false))
+          subst (λ (o : Option ℕ). HeldSoFar rs ex from to c.args.trip.instant (e - time + 1) o time) (sym w.best-is)
+          (subst (λ (m : ℕ). HeldSoFar rs ex from to c.args.trip.instant (e - m + 1) c.departures.best m) (sym w.time-is)
+          (so_slower gates ex law rs c.requires.charted from to c.args.trip.instant d c.departures.time c.departures.best c.departures.invariant e first w.if-arrival-d.false))
     ]
 
 pub returns-else-d-le-LAST_INSTANT : goal.returns-else-d-le-LAST_INSTANT
@@ -170,10 +170,10 @@ returns-else-d-le-LAST_INSTANT g c =
     let ex = g.B.Book.exits b in
     let law = g.B.Book.lawful b in
     let rs = c.args.reaches.now in
-    let from = c.args.from in
-    let to = c.args.to in
+    let from = c.args.trip.from in
+    let to = c.args.trip.to in
     let d = c.departures.d in
-    so_past gates ex law rs c.requires.charted from to c.args.ready d c.departures.time c.departures.best c.requires.asked.1.1.0 c.departures.invariant c.if-d-le-LAST_INSTANT.false
+    so_past gates ex law rs c.requires.charted from to c.args.trip.instant d c.departures.time c.departures.best c.requires.asked.1.1.0 c.departures.invariant c.if-d-le-LAST_INSTANT.false
 
 pub returns-in_default : goal.returns-in_default
 returns-in_default g c =
@@ -182,8 +182,8 @@ returns-in_default g c =
     let ex = g.B.Book.exits b in
     let law = g.B.Book.lawful b in
     let rs = c.args.reaches.now in
-    let from = c.args.from in
-    let to = c.args.to in
+    let from = c.args.trip.from in
+    let to = c.args.trip.to in
     let d = c.departures.d in
     let some : 0 < c.rounds.k = omega arith in
     let long : 4096 ≤ length c.rounds.cells = omega arith in
@@ -193,4 +193,4 @@ returns-in_default g c =
     ] in
     let row = row_of c.rounds-test.cells c.rounds-test.last to in
     let arr = arrival gates ex law rs c.requires.charted from to d c.if-d-le-LAST_INSTANT.true row (row_best no_later (comes_out ex) (all_turned Along rs) from d c.rounds-test.cells c.rounds-test.last after.1 to c.requires.asked.1.0 row refl) in
-    so_none gates ex law rs c.requires.charted from to c.args.ready d c.departures.time c.departures.best c.departures.invariant (subst (Arrival rs ex from to d) (sym c.label_at.ensures ∙ c.in_default.is) arr)
+    so_none gates ex law rs c.requires.charted from to c.args.trip.instant d c.departures.time c.departures.best c.departures.invariant (subst (Arrival rs ex from to d) (sym c.label_at.ensures ∙ c.in_default.is) arr)

@@ -16,7 +16,7 @@ use Rattle.planner.proofs.ways.way_ahead.Goals as goal
 pub returns-in_err-last : goal.returns-in_err-last
 returns-in_err-last g c =
     let ex = g.B.Book.exits c.args.book.now in
-    let n = last_from no_later (comes_out ex) (all_turned Along c.args.reaches.now) (lone c.args.from c.args.ready) 63 0 in
+    let n = last_from no_later (comes_out ex) (all_turned Along c.args.reaches.now) (lone c.args.trip.from c.args.trip.instant) 63 0 in
     none_not_some None n refl (c.in_err-last.ensures.last ∙ cond-false (ltb (length c.args.cells.now) 4096) None (Some n) (le-ltb (length c.args.cells.now) 4096 c.requires.sizes.1.0))
 
 pub returns-in_err-row : goal.returns-in_err-row
@@ -30,12 +30,12 @@ returns-in_err-row g c =
     let last = c.in_ok-last.last in
     let filled = c.in_ok-last.ensures.filled.0 in
     let walks = c.in_ok-last.ensures.walks in
-    let to = c.args.to in
+    let to = c.args.trip.to in
     let h = subst (λ (w : Option ℕ). LeastRow cells last to w None) c.wanted_label-wanted.ensures c.in_err-row.ensures in
-    let two = ahead_none gates ex law rs c.requires.charted cells c.args.from to c.args.ready last c.requires.asked.1.0 c.requires.asked.1.1 filled walks c.args.aim h c.args.legs.now in
+    let two = ahead_none gates ex law rs c.requires.charted cells c.args.trip.from to c.args.trip.instant last c.requires.asked.1.0 c.requires.asked.1.1 filled walks c.args.aim h c.args.legs.now in
     let none = c.from_residual-in_err-row.ensures in
     record {
-      found = subst (λ (r : Option Answer). LookedFor rs ex c.args.from to c.args.ready (Ready c.args.ready) (AheadUnbeaten c.args.aim rs ex c.args.from to c.args.ready) (along rs ex c.args.ready) c.args.legs.now c.args.legs.now r) (sym none) two.0;
+      found = subst (λ (r : Option Answer). LookedFor rs ex c.args.trip.from to c.args.trip.instant (Ready c.args.trip.instant) (AheadUnbeaten c.args.aim rs ex c.args.trip.from to c.args.trip.instant) (along rs ex c.args.trip.instant) c.args.legs.now c.args.legs.now r) (sym none) two.0;
       figures = ap arrival_figures none ∙ two.1;
     }
 
@@ -50,13 +50,13 @@ write_along-requires g c =
     let last = c.in_ok-last.last in
     let filled = c.in_ok-last.ensures.filled.0 in
     let walks = c.in_ok-last.ensures.walks in
-    let to = c.args.to in
+    let to = c.args.trip.to in
     let k = c.in_ok-row.row in
     let h = subst (λ (w : Option ℕ). LeastRow cells last to w (Some k)) c.wanted_label-wanted.ensures c.in_ok-row.ensures in
-    let z = ahead_reached gates ex law rs c.requires.charted cells c.args.from to c.args.ready last c.requires.asked.1.0 c.requires.asked.1.1 filled walks c.args.aim k h in
+    let z = ahead_reached gates ex law rs c.requires.charted cells c.args.trip.from to c.args.trip.instant last c.requires.asked.1.0 c.requires.asked.1.1 filled walks c.args.aim k h in
     record {
       sizes = (c.requires.sizes.0, (omega arith, omega (arith, h.0, walks.0, c.requires.sizes.1.1)));
-      reached = (c.args.from, c.args.ready, z.0, z.1);
+      reached = (c.args.trip.from, c.args.trip.instant, z.0, z.1);
     }
 
 pub slice_bounds-figures_of-end : goal.slice_bounds-figures_of-end
@@ -77,10 +77,10 @@ returns g c =
     let last = c.in_ok-last.last in
     let filled = c.in_ok-last.ensures.filled.0 in
     let walks = c.in_ok-last.ensures.walks in
-    let to = c.args.to in
+    let to = c.args.trip.to in
     let k = c.in_ok-row.row in
     let h = subst (λ (w : Option ℕ). LeastRow cells last to w (Some k)) c.wanted_label-wanted.ensures c.in_ok-row.ensures in
     let all : c.in_ok-row.row - 0 ≡ c.in_ok-row.row = omega arith in
-    let two = ahead_some gates ex law rs c.requires.charted cells c.args.from to c.args.ready last c.requires.asked.1.0 c.requires.asked.1.1 filled walks c.args.aim k h c.args.legs.now c.write_along.new.legs
-    (λ z r. c.write_along.ensures c.args.from c.args.ready z r) c.figures_of.result (c.figures_of.ensures ∙ ap (λ (m : ℕ). figures c.args.ready (take m c.write_along.new.legs)) all) in
+    let two = ahead_some gates ex law rs c.requires.charted cells c.args.trip.from to c.args.trip.instant last c.requires.asked.1.0 c.requires.asked.1.1 filled walks c.args.aim k h c.args.legs.now c.write_along.new.legs
+    (λ z r. c.write_along.ensures c.args.trip.from c.args.trip.instant z r) c.figures_of.result (c.figures_of.ensures ∙ ap (λ (m : ℕ). figures c.args.trip.instant (take m c.write_along.new.legs)) all) in
     record { found = two.0; figures = two.1 }

@@ -16,7 +16,7 @@ use Rattle.planner.proofs.ways.way_back.Goals as goal
 pub returns-in_err-last : goal.returns-in_err-last
 returns-in_err-last g c =
     let ex = g.B.Book.exits c.args.book.now in
-    let n = last_from no_sooner (goes_in ex) (all_turned Against c.args.reaches.now) (lone c.args.to c.args.due) 63 0 in
+    let n = last_from no_sooner (goes_in ex) (all_turned Against c.args.reaches.now) (lone c.args.trip.to c.args.trip.instant) 63 0 in
     none_not_some None n refl (c.in_err-last.ensures.last ∙ cond-false (ltb (length c.args.cells.now) 4096) None (Some n) (le-ltb (length c.args.cells.now) 4096 c.requires.sizes.1.0))
 
 pub returns-in_err-row : goal.returns-in_err-row
@@ -30,11 +30,11 @@ returns-in_err-row g c =
     let last = c.in_ok-last.last in
     let filled = c.in_ok-last.ensures.filled.0 in
     let walks = c.in_ok-last.ensures.walks in
-    let from = c.args.from in
-    let two = latest_none gates ex law rs c.requires.charted cells from c.args.to c.args.due last c.requires.asked.0 c.requires.asked.1.1 filled walks (subst (λ (w : Option ℕ). LeastRow cells last from w None) c.wanted_label-wanted.ensures c.in_err-row.ensures) c.args.legs.now in
+    let from = c.args.trip.from in
+    let two = latest_none gates ex law rs c.requires.charted cells from c.args.trip.to c.args.trip.instant last c.requires.asked.0 c.requires.asked.1.1 filled walks (subst (λ (w : Option ℕ). LeastRow cells last from w None) c.wanted_label-wanted.ensures c.in_err-row.ensures) c.args.legs.now in
     let none = c.from_residual-in_err-row.ensures in
     record {
-      found = subst (λ (r : Option Answer). LookedFor rs ex from c.args.to c.args.due (Due c.args.due) (λ ans. LatestUnbeaten rs ex from c.args.to c.args.due ans.departure ans.reaches) (against rs ex c.args.due) c.args.legs.now c.args.legs.now r) (sym none) two.0;
+      found = subst (λ (r : Option Answer). LookedFor rs ex from c.args.trip.to c.args.trip.instant (Due c.args.trip.instant) (λ ans. LatestUnbeaten rs ex from c.args.trip.to c.args.trip.instant ans.departure ans.reaches) (against rs ex c.args.trip.instant) c.args.legs.now c.args.legs.now r) (sym none) two.0;
       figures = ap departure_figures none ∙ two.1;
     }
 
@@ -49,11 +49,11 @@ write_against-requires g c =
     let last = c.in_ok-last.last in
     let filled = c.in_ok-last.ensures.filled.0 in
     let walks = c.in_ok-last.ensures.walks in
-    let h = subst (λ (w : Option ℕ). LeastRow cells last c.args.from w (Some c.in_ok-row.row)) c.wanted_label-wanted.ensures c.in_ok-row.ensures in
-    let z = latest_reached gates ex law rs c.requires.charted cells c.args.from c.args.to c.args.due last c.requires.asked.0 c.requires.asked.1.1 filled walks c.in_ok-row.row h in
+    let h = subst (λ (w : Option ℕ). LeastRow cells last c.args.trip.from w (Some c.in_ok-row.row)) c.wanted_label-wanted.ensures c.in_ok-row.ensures in
+    let z = latest_reached gates ex law rs c.requires.charted cells c.args.trip.from c.args.trip.to c.args.trip.instant last c.requires.asked.0 c.requires.asked.1.1 filled walks c.in_ok-row.row h in
     record {
       sizes = (c.requires.sizes.0, (omega arith, omega (arith, h.0, walks.0, c.requires.sizes.1.1)));
-      reached = (c.args.to, c.args.due, z.0, z.2);
+      reached = (c.args.trip.to, c.args.trip.instant, z.0, z.2);
     }
 
 pub slice_bounds-figures_of-end : goal.slice_bounds-figures_of-end
@@ -74,10 +74,10 @@ returns g c =
     let last = c.in_ok-last.last in
     let filled = c.in_ok-last.ensures.filled.0 in
     let walks = c.in_ok-last.ensures.walks in
-    let h = subst (λ (w : Option ℕ). LeastRow cells last c.args.from w (Some c.in_ok-row.row)) c.wanted_label-wanted.ensures c.in_ok-row.ensures in
+    let h = subst (λ (w : Option ℕ). LeastRow cells last c.args.trip.from w (Some c.in_ok-row.row)) c.wanted_label-wanted.ensures c.in_ok-row.ensures in
     let k = c.in_ok-row.row in
-    let z = latest_reached gates ex law rs c.requires.charted cells c.args.from c.args.to c.args.due last c.requires.asked.0 c.requires.asked.1.1 filled walks k h in
+    let z = latest_reached gates ex law rs c.requires.charted cells c.args.trip.from c.args.trip.to c.args.trip.instant last c.requires.asked.0 c.requires.asked.1.1 filled walks k h in
     let all : c.in_ok-row.row - 0 ≡ c.in_ok-row.row = omega arith in
-    let two = latest_some gates ex law rs c.requires.charted cells c.args.from c.args.to c.args.due last c.requires.asked.0 c.requires.asked.1.1 filled walks k z.0 c.args.legs.now c.write_against.new.legs
-    (c.write_against.ensures c.args.to c.args.due z.0 z.2) c.figures_of.result (c.figures_of.ensures ∙ ap (λ (m : ℕ). figures c.args.due (take m c.write_against.new.legs)) all) h.0 h z.1 z.2 in
+    let two = latest_some gates ex law rs c.requires.charted cells c.args.trip.from c.args.trip.to c.args.trip.instant last c.requires.asked.0 c.requires.asked.1.1 filled walks k z.0 c.args.legs.now c.write_against.new.legs
+    (c.write_against.ensures c.args.trip.to c.args.trip.instant z.0 z.2) c.figures_of.result (c.figures_of.ensures ∙ ap (λ (m : ℕ). figures c.args.trip.instant (take m c.write_against.new.legs)) all) h.0 h z.1 z.2 in
     record { found = two.0; figures = two.1 }

@@ -6,7 +6,7 @@ use Rattle.planner.proofs.charts.Planner.ahead.Goals as goal
 pub way_ahead-requires : goal.way_ahead-requires
 way_ahead-requires g c =
     let p = c.args.self.now in
-    let f = fits (length c.args.cells.now) (length c.args.legs.now) c.args.from c.args.to c.args.ready c.in_default.ensures in
+    let f = fits (length c.args.cells.now) (length c.args.legs.now) c.args.trip.from c.args.trip.to c.args.trip.instant c.in_ok-fit.ensures in
     record {
       asked = (f.from_place, (f.to_place, f.in_time));
       sizes = (omega (arith, c.deref.ensures.len, p.room.1), (f.cells_enough, f.legs_enough));
