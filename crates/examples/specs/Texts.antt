@@ -2,7 +2,6 @@
 use Rattle.std.specs.Prelude.{ℕ, List, ◌++◌, Ok, Err, Result, codes, decimal}
 use Rattle.std.specs.List.{flat_map}
 use Rattle.planner.specs.Texts.{answer_text, leg_text, refusal_text}
-use Rattle.planner.specs.declared.legs.Answer.{Answer}
 use Rattle.planner.specs.declared.legs.Leg.{Leg}
 use Rattle.planner.specs.declared.refusals.Refusal.{Refusal}
 use Rattle.examples.specs.declared.replies.Done.{Done}

@@ -1,10 +1,9 @@
 // What each line of the input asks for.
 use crate::reading::Unreadable;
 use crate::series::{Change, Series};
-use books::book::Instant;
 use books::tides::Tide;
 use books::windows::Window;
-use search::reaches::Place;
+use planner::trips::Trip;
 use std::alloc::{AllocError, Global};
 use std::num::NonZeroU16;
 
@@ -23,13 +22,11 @@ pub(crate) enum Ask {
     Latest,
 }
 
-// A question; the instant is the ready instant, or for `latest` the due instant.
+// A question; the trip's instant is the ready instant, or for `latest` the due instant.
 #[derive(Clone, Copy)]
 pub(crate) struct Question {
     pub(crate) ask: Ask,
-    pub(crate) from: Place,
-    pub(crate) to: Place,
-    pub(crate) instant: Instant,
+    pub(crate) trip: Trip,
 }
 
 // How long the lent lists are.

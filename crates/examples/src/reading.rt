@@ -4,6 +4,7 @@ use crate::series::{Change, Scatter, Series};
 use books::tides::Tide;
 use books::windows::Window;
 use layers::notices::Notice;
+use planner::trips::Trip;
 use search::reaches::Reach;
 use std::num::{ParseIntError, TryFromIntError};
 use std::str::FromStr;
@@ -143,9 +144,7 @@ impl FromStr for Question {
         let [from, to, instant] = numbers::<3>(rest)?;
         Ok(Question {
             ask: ask.parse()?,
-            from,
-            to,
-            instant,
+            trip: Trip { from, to, instant },
         })
     }
 }

@@ -1,6 +1,5 @@
 // What is asked of a sheet.
 ghost use Rattle.std.specs.Prelude.{◌≡◌, ◌≤◌, length, take, IfOk, vec_len};
-ghost use Rattle.layers.specs.Notices.{noticed_exits};
 ghost use Rattle.planner.specs.Journeys.{Journey};
 ghost use Rattle.examples.specs.Calls.{Replied};
 ghost use Rattle.examples.specs.Questions.{told_answer, question_reply, QuestionOutcome, Answered};
@@ -9,6 +8,7 @@ use crate::cases::{Ask, Call, Question};
 use crate::replies::Done;
 use crate::sheets::Sheet;
 use books::book::{Book, Instant};
+use layers::notices::Noticed;
 use planner::charts::Planner;
 use planner::legs::{Answer, Leg};
 use planner::refusals::Refusal;
@@ -19,23 +19,21 @@ fn ask<B: Book>(
     cells: &mut [Option<Instant>],
     legs: &mut [Leg],
 ) -> Result<Answer, Refusal>
-    ensures reply { told_answer question.ask result ≡ question_reply (length cells.old) (length legs.old) planner.now.reaches.items (noticed_exits planner.now.noticed.notices.items (B.Book.exits planner.now.noticed.book)) question }
-    ensures journey { QuestionOutcome planner.now.reaches.items (noticed_exits planner.now.noticed.notices.items (B.Book.exits planner.now.noticed.book)) question cells.old cells.new legs.old legs.new result }
-    ensures written { IfOk result (λ ans. (ans.reaches ≤ length legs.new) × Journey planner.now.reaches.items (noticed_exits planner.now.noticed.notices.items (B.Book.exits planner.now.noticed.book)) question.from question.to ans.departure ans.arrival (take ans.reaches legs.new)) }
+    ensures reply { told_answer question.ask result ≡ question_reply (length cells.old) (length legs.old) planner.now.reaches.items (⟦<Noticed<B> as Book>⟧.exits planner.now.noticed) question }
+    ensures journey { QuestionOutcome planner.now.reaches.items (⟦<Noticed<B> as Book>⟧.exits planner.now.noticed) question cells.old cells.new legs.old legs.new result }
+    ensures written { IfOk result (λ ans. (ans.reaches ≤ length legs.new) × Journey planner.now.reaches.items (⟦<Noticed<B> as Book>⟧.exits planner.now.noticed) question.trip.from question.trip.to ans.departure ans.arrival (take ans.reaches legs.new)) }
 {
-    let from = question.from;
-    let to = question.to;
-    let t = question.instant;
-    match question.ask {
-        Ask::Foremost => planner.foremost(from, to, t, cells, legs),
-        Ask::Fewest => planner.fewest(from, to, t, cells, legs),
-        Ask::Latest => planner.latest(from, to, t, cells, legs),
+    let Question { ask, trip } = question;
+    match ask {
+        Ask::Foremost => planner.foremost(trip, cells, legs),
+        Ask::Fewest => planner.fewest(trip, cells, legs),
+        Ask::Latest => planner.latest(trip, cells, legs),
     }
 }
 
 impl<B: Book> Sheet<B> {
     fn answer(&mut self, question: Question) -> Result<Done<'_>, Refusal>
-        ensures { Answered (vec_len self.old.cells) (vec_len self.old.legs) self.old.planner.reaches.items (noticed_exits self.old.planner.noticed.notices.items (B.Book.exits self.old.planner.noticed.book)) question result }
+        ensures { Answered (vec_len self.old.cells) (vec_len self.old.legs) self.old.planner.reaches.items (⟦<Noticed<B> as Book>⟧.exits self.old.planner.noticed) question result }
     {
         let legs = self.legs.as_mut_slice();
         let answer = ask(&self.planner, question, &mut self.cells, legs)?;
