@@ -1,9 +1,10 @@
 -- What changes of a sheet reply and leave, over a book of so many gates. Assumes nothing.
-use Rattle.std.specs.Prelude.{ℕ, zero, suc, ◌+◌, List, [], ◌++◌, length, Some, None, codes, decimal, Option}
+use Rattle.std.specs.Prelude.{ℕ, zero, suc, ◌+◌, List, [], ◌++◌, length, Some, None, vec_items, codes, decimal, Option}
 use Rattle.layers.specs.Notices.{post_refusal, after_post, lift_refusal, after_lift}
 use Rattle.layers.specs.declared.notices.Notice.{Notice}
 use Rattle.search.specs.declared.reaches.Reach.{Reach}
 use Rattle.planner.specs.Charts.{lay_refusal, after_lay}
+use Rattle.planner.specs.declared.charts.Planner.{Planner}
 use Rattle.examples.specs.Series.{change_at, series_after}
 use Rattle.examples.specs.declared.series.Change.{Change}
 use Rattle.examples.specs.declared.series.Change.TheVariants.{Lay, Post, Lift}
@@ -38,16 +39,18 @@ pub record State : Type 0 where
   pub notices : List Notice
   pub text : List ℕ
 
-abbrev pub state : List Reach → List Notice → List ℕ → State
-state rs ns x = record { chart = rs; notices = ns; text = x }
+-- of a planner, with the text of the last reply
+abbrev pub state : {B : Type 0} → Planner B → List ℕ → State
+state p x = record { chart = vec_items p.reaches; notices = vec_items p.noticed.notices; text = x }
 
 -- before anything is replied
-abbrev pub unasked : List Reach → List Notice → State
-unasked rs ns = state rs ns []
+abbrev pub unasked : {B : Type 0} → Planner B → State
+unasked p = state p []
 
 -- after a change
 abbrev pub changed : ℕ → Change → State → State
-changed gates c st = state (chart_after gates st.chart c) (notices_after gates st.notices c) (change_text gates st.chart st.notices c)
+changed gates c st =
+    record { chart = chart_after gates st.chart c; notices = notices_after gates st.notices c; text = change_text gates st.chart st.notices c }
 
 -- after n changes of a series, from number i on
 abbrev pub repeated : ℕ → ℕ → ℕ → Series → State → State

@@ -41,7 +41,7 @@ impl<B: Book> Sheet<B> {
     }
 
     pub(crate) fn call(&mut self, call: Call) -> Result<Done<'_>, Refusal>
-        ensures { Replied (B.Book.gates self.old.planner.noticed.book) (B.Book.exits self.old.planner.noticed.book) self.old.planner.reaches.items self.old.planner.noticed.notices.items (vec_len self.old.cells) (vec_len self.old.legs) call result }
+        ensures { Replied (B.Book.gates self.old.planner.noticed.book) (B.Book.exits self.old.planner.noticed.book) self.old.planner (vec_len self.old.cells) (vec_len self.old.legs) call result }
     {
         match call {
             Call::Change(change) => self.change(change),

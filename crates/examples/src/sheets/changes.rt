@@ -13,7 +13,7 @@ use planner::refusals::Refusal;
 
 impl<B: Book> Sheet<B> {
     pub(crate) fn change(&mut self, change: Change) -> Result<Done<'static>, Refusal>
-        ensures state { state self.new.planner.reaches.items self.new.planner.noticed.notices.items (reply_text result) ≡ changed (B.Book.gates self.old.planner.noticed.book) change (unasked self.old.planner.reaches.items self.old.planner.noticed.notices.items) }
+        ensures state { state self.new.planner (reply_text result) ≡ changed (B.Book.gates self.old.planner.noticed.book) change (unasked self.old.planner) }
         ensures book { self.new.planner.noticed.book ≡ self.old.planner.noticed.book }
     {
         match change {
@@ -29,10 +29,10 @@ impl<B: Book> Sheet<B> {
         }
     }
 
-    // The last reply.
+    // The last reply. The series is told the number of each change: one that counted would owe that it never counts too far.
     #[tactic(auto, using(crate::proofs::Repeats::repeated_more))]
     pub(crate) fn repeat(&mut self, repeat: Repeat) -> Result<Done<'static>, Refusal>
-        ensures { state self.new.planner.reaches.items self.new.planner.noticed.notices.items (reply_text result) ≡ repeated (B.Book.gates self.old.planner.noticed.book) (non_zero_u16_get repeat.count) 0 repeat.series (unasked self.old.planner.reaches.items self.old.planner.noticed.notices.items) }
+        ensures { state self.new.planner (reply_text result) ≡ repeated (B.Book.gates self.old.planner.noticed.book) (non_zero_u16_get repeat.count) 0 repeat.series (unasked self.old.planner) }
     {
         let Repeat { count, mut series } = repeat;
         let mut reply = self.change(series.change(0));

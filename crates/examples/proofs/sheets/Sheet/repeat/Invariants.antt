@@ -1,4 +1,4 @@
-use Rattle.std.proofs.Common.{◌≡◌, ◌-◌, vec_items}
+use Rattle.std.proofs.Common.{◌≡◌, ◌-◌}
 use Rattle.std.specs.Int.NonZero.{non_zero_u16_get}
 use Rattle.examples.specs.Changes.{state, unasked, repeated}
 use Rattle.examples.specs.Texts.{reply_text}
@@ -7,6 +7,7 @@ use Rattle.examples.proofs.sheets.Sheet.repeat.Given as goal
 -- the book stays, and the changes that are left lead from here where all lead from the first
 abbrev pub invariant-loop-i : goal.invariant-loop-i
 invariant-loop-i g l =
+    let gates = g.B.Book.gates l.fn.self.planner.noticed.book in
+    let count = non_zero_u16_get l.fn.repeat.count in
     (l.self.planner.noticed.book ≡ l.fn.self.planner.noticed.book)
-    × (repeated (g.B.Book.gates l.fn.self.planner.noticed.book) (non_zero_u16_get l.fn.repeat.count - l.i) l.i l.series (state (vec_items l.self.planner.reaches) (vec_items l.self.planner.noticed.notices) (reply_text l.reply))
-    ≡ repeated (g.B.Book.gates l.fn.self.planner.noticed.book) (non_zero_u16_get l.fn.repeat.count) 0 l.fn.repeat.series (unasked (vec_items l.fn.self.planner.reaches) (vec_items l.fn.self.planner.noticed.notices)))
+    × (repeated gates (count - l.i) l.i l.series (state l.self.planner (reply_text l.reply)) ≡ repeated gates count 0 l.fn.repeat.series (unasked l.fn.self.planner))
