@@ -21,7 +21,6 @@ fn ask<B: Book>(
 ) -> Result<Answer, Refusal>
     ensures reply { told_answer question.ask result ≡ question_reply (length cells.old) (length legs.old) planner.now.reaches.items (⟦<Noticed<B> as Book>⟧.exits planner.now.noticed) question }
     ensures journey { QuestionOutcome planner.now.reaches.items (⟦<Noticed<B> as Book>⟧.exits planner.now.noticed) question cells.old cells.new legs.old legs.new result }
-    ensures written { IfOk result (λ ans. (ans.reaches ≤ length legs.new) × Journey planner.now.reaches.items (⟦<Noticed<B> as Book>⟧.exits planner.now.noticed) question.trip.from question.trip.to ans.departure ans.arrival (take ans.reaches legs.new)) }
 {
     let Question { ask, trip } = question;
     match ask {

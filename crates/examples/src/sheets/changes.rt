@@ -29,7 +29,8 @@ impl<B: Book> Sheet<B> {
         }
     }
 
-    // The last reply. The series is told the number of each change: one that counted would owe that it never counts too far.
+    // The last reply.
+    // The series is told each change's number: one that counted by itself would owe that its places fit 16 bits.
     #[tactic(auto, using(crate::proofs::Repeats::repeated_more))]
     pub(crate) fn repeat(&mut self, repeat: Repeat) -> Result<Done<'static>, Refusal>
         ensures { state self.new.planner (reply_text result) ≡ repeated (B.Book.gates self.old.planner.noticed.book) (non_zero_u16_get repeat.count) 0 repeat.series (unasked self.old.planner) }
