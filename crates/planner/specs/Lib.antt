@@ -1,6 +1,7 @@
 pub mod Refusals
 pub mod Texts
 pub mod Reckonings
+pub mod Headings
 pub mod Journeys
 pub mod Routes
 pub mod Charts

@@ -8,7 +8,7 @@ use crate::trips::Trip;
 use crate::ways::label_at;
 use books::book::{Book, Instant, LAST_INSTANT};
 use search::reaches::{Direction, Place, Reach};
-use search::rows::{first_row, next_row, search};
+use search::rows::{Search, first_row};
 
 // The latest departure that still arrives at e, where a journey that is ready at d does.
 fn leaving_for<B: Book>(
@@ -26,7 +26,13 @@ fn leaving_for<B: Book>(
     ensures first { ArrivesFirst reaches.now (B.Book.exits book.now) from to result e }
 {
     let by = LatestDeparture { book };
-    let last = search(&by, Direction::Against, reaches, to, e, cells).unwrap();
+    let last = Search {
+        by: &by,
+        direction: Direction::Against,
+        reaches,
+    }
+    .run(to, e, cells)
+    .unwrap();
     label_at(cells, last, from).unwrap()
 }
 
@@ -42,6 +48,11 @@ pub(crate) fn fastest_departure<B: Book>(
     ensures { FastestChoice reaches.now (B.Book.exits book.now) trip.from trip.to trip.instant result }
 {
     let by = EarliestArrival { book };
+    let search = Search {
+        by: &by,
+        direction: Direction::Along,
+        reaches,
+    };
     let mut best = None;
     let mut time = LAST_INSTANT + 1;
     let mut d = trip.instant;
@@ -49,7 +60,7 @@ pub(crate) fn fastest_departure<B: Book>(
         let _ = first_row(cells, trip.from, d);
         let mut last = 0;
         'rounds: for k in 1..64 {
-            let told = next_row(&by, Direction::Along, reaches, cells, k);
+            let told = search.next_row(cells, k);
             last = k;
             if !told {
                 break 'rounds;

@@ -3,6 +3,7 @@
 
 pub mod charts;
 mod departures;
+mod headings;
 pub mod legs;
 pub mod reckonings;
 pub mod refusals;

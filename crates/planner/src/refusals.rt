@@ -25,6 +25,14 @@ pub enum Refusal {
     Layer(LayerRefusal),
 }
 
+impl From<LayerRefusal> for Refusal {
+    ghost from_gives = { λ f r. r ≡ Layer f };
+
+    fn from(refusal: LayerRefusal) -> Refusal {
+        Refusal::Layer(refusal)
+    }
+}
+
 impl From<Refusal> for u16 {
     ghost from_gives = { λ refusal given. given ≡ number refusal };
 
@@ -38,14 +46,6 @@ impl From<Refusal> for u16 {
             Refusal::ChartFull => 6,
             Refusal::Layer(refusal) => u16::from(refusal),
         }
-    }
-}
-
-impl From<LayerRefusal> for Refusal {
-    ghost from_gives = { λ f r. r ≡ Layer f };
-
-    fn from(refusal: LayerRefusal) -> Refusal {
-        Refusal::Layer(refusal)
     }
 }
 

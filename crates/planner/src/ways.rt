@@ -16,8 +16,7 @@ use crate::reckonings::{EarliestArrival, LatestDeparture};
 use crate::trips::Trip;
 use books::book::{Book, Instant};
 use search::reaches::{Direction, Place, Reach};
-use search::rows::search;
-use search::ways::back_step;
+use search::rows::Search;
 
 // What counts first in a journey; the other counts second.
 #[derive(Clone, Copy)]
@@ -90,7 +89,13 @@ fn leg_along<B: Book>(
     ensures { (a t z : ℕ) → Reached no_later (comes_out (B.Book.exits book.now)) (all_turned Along reaches.now) cells.now a t row place z → LegAlong reaches.now (B.Book.exits book.now) cells.now a t row place z result.0 result.1 }
 {
     let by = EarliestArrival { book };
-    let n = back_step(&by, Direction::Along, reaches, cells, row, place).unwrap();
+    let n = Search {
+        by: &by,
+        direction: Direction::Along,
+        reaches,
+    }
+    .back_step(cells, row, place)
+    .unwrap();
     let reach = reaches[n];
     let here = cells[64 * (row - 1) + usize::from(reach.from)].unwrap();
     let (entry, exit) = book.first(reach.gate, here).unwrap();
@@ -115,7 +120,13 @@ fn leg_against<B: Book>(
     ensures { (b t z : ℕ) → Reached no_sooner (goes_in (B.Book.exits book.now)) (all_turned Against reaches.now) cells.now b t row place z → LegAgainst reaches.now (B.Book.exits book.now) cells.now b t row place z result.0 result.1 }
 {
     let by = LatestDeparture { book };
-    let n = back_step(&by, Direction::Against, reaches, cells, row, place).unwrap();
+    let n = Search {
+        by: &by,
+        direction: Direction::Against,
+        reaches,
+    }
+    .back_step(cells, row, place)
+    .unwrap();
     let reach = reaches[n];
     let here = cells[64 * (row - 1) + usize::from(reach.to)].unwrap();
     let (entry, exit) = book.last(reach.gate, here).unwrap();
@@ -217,14 +228,12 @@ pub(crate) fn way_ahead<B: Book>(
     ensures figures { arrival_figures result ≡ ahead_figures aim reaches.now (B.Book.exits book.now) trip.from trip.to trip.instant }
 {
     let by = EarliestArrival { book };
-    let last = search(
-        &by,
-        Direction::Along,
+    let last = Search {
+        by: &by,
+        direction: Direction::Along,
         reaches,
-        trip.from,
-        trip.instant,
-        cells,
-    )?;
+    }
+    .run(trip.from, trip.instant, cells)?;
     let wanted = wanted_label(aim, cells, last, trip.to);
     let row = least_row(cells, last, trip.to, wanted)?;
     write_along(book, reaches, cells, row, trip.to, legs);
@@ -246,14 +255,12 @@ pub(crate) fn way_back<B: Book>(
     ensures figures { departure_figures result ≡ latest_figures reaches.now (B.Book.exits book.now) trip.from trip.to trip.instant }
 {
     let by = LatestDeparture { book };
-    let last = search(
-        &by,
-        Direction::Against,
+    let last = Search {
+        by: &by,
+        direction: Direction::Against,
         reaches,
-        trip.to,
-        trip.instant,
-        cells,
-    )?;
+    }
+    .run(trip.to, trip.instant, cells)?;
     let wanted = wanted_label(Aim::Time, cells, last, trip.from);
     let row = least_row(cells, last, trip.from, wanted)?;
     write_against(book, reaches, cells, row, trip.from, legs);

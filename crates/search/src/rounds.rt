@@ -3,8 +3,9 @@ ghost use Rattle.std.specs.Prelude.{◌≡◌, ℕ, ◌+◌, ◌-◌, ◌*◌, �
 ghost use Rattle.search.specs.Reaches.{turned, all_turned};
 ghost use Rattle.search.specs.Rows.{onward, bettering, tells, relaxed, rounded, stirred, gathered, stirs, fresh, RoundBefore, Carried};
 
-use crate::reaches::{Direction, Gate, PLACES, Place, Reach};
+use crate::reaches::{Gate, PLACES, Place, Reach};
 use crate::reckoning::Reckoning;
+use crate::rows::Search;
 
 // How a label, if there is one, goes on.
 pub(crate) fn go_on<R: Reckoning>(by: &R, gate: Gate, here: Option<R::Label>) -> Option<R::Label>
@@ -63,49 +64,6 @@ fn is_new<R: Reckoning>(by: &R, cells: &[Option<R::Label>], k: usize, place: Pla
     betters(by, old, new)
 }
 
-// Takes every reach on whose start has a new label, from row k - 1 into row k, and says whether one of them betters its
-// end. The others were taken on with the same label in the round before, where there was one.
-pub(crate) fn pass<R: Reckoning>(
-    by: &R,
-    direction: Direction,
-    reaches: &[Reach],
-    cells: &mut [Option<R::Label>],
-    k: usize,
-) -> bool
-    requires { (0 < k) × (64 * k + 64 ≤ length cells.old) }
-    ensures cells { Carried (R.good by.now) (R.goes by.now) (all_turned direction reaches.now) cells.old k → cells.new ≡ rounded (R.good by.now) (R.goes by.now) (64 * (k - 1)) (64 * k) cells.old (all_turned direction reaches.now) }
-    ensures told { Carried (R.good by.now) (R.goes by.now) (all_turned direction reaches.now) cells.old k → result ≡ stirred (R.good by.now) (R.goes by.now) (64 * (k - 1)) (64 * k) cells.old false (all_turned direction reaches.now) }
-    ensures below { (j : ℕ) → j < 64 * k → slice_index_or cells.new j None ≡ slice_index_or cells.old j None }
-    ensures above { (j : ℕ) → 64 * k + 64 ≤ j → slice_index_or cells.new j None ≡ slice_index_or cells.old j None }
-{
-    let mut told = false;
-    for reach in reaches {
-        let e = direction.turn(*reach);
-        if is_new(by, cells, k, e.from) {
-            told |= relax(by, cells, 64 * (k - 1), 64 * k, e);
-        }
-    }
-    told
-}
-
-// Takes every reach on whose start has a new label, from row k - 1 into row k, and says whether one of them betters its
-// end. The others were taken on with the same label in the round before.
-fn round<R: Reckoning>(
-    by: &R,
-    direction: Direction,
-    reaches: &[Reach],
-    cells: &mut [Option<R::Label>],
-    k: usize,
-) -> bool
-    requires sizes { (0 < k) × (64 * k + 64 ≤ length cells.old) }
-    requires carried { (v : ℕ) → v < 64 → slice_index_or cells.old (64 * k + v) None ≡ slice_index_or cells.old (64 * (k - 1) + v) None }
-    requires before { RoundBefore (R.good by.now) (R.goes by.now) (all_turned direction reaches.now) cells.old k }
-    ensures cells { cells.new ≡ rounded (R.good by.now) (R.goes by.now) (64 * (k - 1)) (64 * k) cells.old (all_turned direction reaches.now) }
-    ensures told { result ≡ stirred (R.good by.now) (R.goes by.now) (64 * (k - 1)) (64 * k) cells.old false (all_turned direction reaches.now) }
-{
-    pass(by, direction, reaches, cells, k)
-}
-
 // Gives the row at q what the row at p has.
 pub(crate) fn carry<L: Copy>(cells: &mut [Option<L>], p: usize, q: usize)
     requires { (p + 64 ≤ q) × (q + 64 ≤ length cells.old) }
@@ -119,21 +77,23 @@ pub(crate) fn carry<L: Copy>(cells: &mut [Option<L>], p: usize, q: usize)
     }
 }
 
-// Fills row k from the row before it, and says whether a place is bettered.
-pub(crate) fn advance<R: Reckoning>(
-    by: &R,
-    direction: Direction,
-    reaches: &[Reach],
-    cells: &mut [Option<R::Label>],
-    k: usize,
-) -> bool
-    requires sizes { (0 < k) × ((k < 64) × (4096 ≤ length cells.old)) }
-    requires before { RoundBefore (R.good by.now) (R.goes by.now) (all_turned direction reaches.now) cells.old k }
-    ensures row { (v : ℕ) → v < 64 → slice_index_or cells.new (64 * k + v) None ≡ gathered (R.good by.now) (R.goes by.now) (all_turned direction reaches.now) (λ u. slice_index_or cells.old (64 * (k - 1) + u) None) v (slice_index_or cells.old (64 * (k - 1) + v) None) }
-    ensures below { (j : ℕ) → j < 64 * k → slice_index_or cells.new j None ≡ slice_index_or cells.old j None }
-    ensures above { (j : ℕ) → 64 * k + 64 ≤ j → slice_index_or cells.new j None ≡ slice_index_or cells.old j None }
-    ensures told { result ≡ stirs (R.good by.now) (R.goes by.now) (all_turned direction reaches.now) (λ u. slice_index_or cells.old (64 * (k - 1) + u) None) }
-{
-    carry(cells, 64 * (k - 1), 64 * k);
-    round(by, direction, reaches, cells, k)
+impl<R: Reckoning> Search<'_, R> {
+    // Takes every reach on whose start has a new label, from row k - 1 into row k, and says whether one of them betters its
+    // end. The others were taken on with the same label in the round before, where there was one.
+    pub(crate) fn pass(self, cells: &mut [Option<R::Label>], k: usize) -> bool
+        requires { (0 < k) × (64 * k + 64 ≤ length cells.old) }
+        ensures cells { Carried (R.good self.entry.by.now) (R.goes self.entry.by.now) (all_turned self.entry.direction self.entry.reaches.now) cells.old k → cells.new ≡ rounded (R.good self.entry.by.now) (R.goes self.entry.by.now) (64 * (k - 1)) (64 * k) cells.old (all_turned self.entry.direction self.entry.reaches.now) }
+        ensures told { Carried (R.good self.entry.by.now) (R.goes self.entry.by.now) (all_turned self.entry.direction self.entry.reaches.now) cells.old k → result ≡ stirred (R.good self.entry.by.now) (R.goes self.entry.by.now) (64 * (k - 1)) (64 * k) cells.old false (all_turned self.entry.direction self.entry.reaches.now) }
+        ensures below { (j : ℕ) → j < 64 * k → slice_index_or cells.new j None ≡ slice_index_or cells.old j None }
+        ensures above { (j : ℕ) → 64 * k + 64 ≤ j → slice_index_or cells.new j None ≡ slice_index_or cells.old j None }
+    {
+        let mut told = false;
+        for reach in self.reaches {
+            let e = self.direction.turn(*reach);
+            if is_new(self.by, cells, k, e.from) {
+                told |= relax(self.by, cells, 64 * (k - 1), 64 * k, e);
+            }
+        }
+        told
+    }
 }

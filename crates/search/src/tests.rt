@@ -1,8 +1,7 @@
 // Charts and slices at their edges, searched with the plain reckoning.
 use crate::reaches::{Direction, Reach};
-use crate::rows::search;
+use crate::rows::Search;
 use crate::tolls::Tolls;
-use crate::ways::back_step;
 
 fn reach(from: u16, to: u16, gate: u16) -> Reach {
     Reach { from, to, gate }
@@ -27,7 +26,12 @@ fn found(
 ) -> Option<(usize, Option<u16>)> {
     let mut cells = [None; 4096];
     let by = Tolls { tolls };
-    let last = search(&by, Direction::Along, reaches, start, 5, &mut cells)?;
+    let search = Search {
+        by: &by,
+        direction: Direction::Along,
+        reaches,
+    };
+    let last = search.run(start, 5, &mut cells)?;
     if last < 64 && place < 64 {
         Some((last, cells[64 * last + place]))
     } else {
@@ -72,10 +76,12 @@ fn a_chain_of_63(rt: HostRuntime) {
     assert_eq!(rt; found(&[1], &reaches, 0, 63), Some((63, Some(68))));
     let mut cells = [None; 4096];
     let by = Tolls { tolls: &[1] };
-    assert_eq!(rt;
-        search(&by, Direction::Against, &reaches, 63, 0, &mut cells),
-        Some(63)
-    );
+    let search = Search {
+        by: &by,
+        direction: Direction::Against,
+        reaches: &reaches,
+    };
+    assert_eq!(rt; search.run(63, 0, &mut cells), Some(63));
     assert_eq!(rt; cells[4032], Some(63));
 }
 
@@ -83,10 +89,12 @@ fn a_chain_of_63(rt: HostRuntime) {
 fn one_cell_short(rt: HostRuntime) {
     let mut cells = [Some(7); 4095];
     let by = Tolls { tolls: &[1] };
-    assert_eq!(rt;
-        search(&by, Direction::Along, &[reach(0, 1, 0)], 0, 0, &mut cells),
-        None
-    );
+    let search = Search {
+        by: &by,
+        direction: Direction::Along,
+        reaches: &[reach(0, 1, 0)],
+    };
+    assert_eq!(rt; search.run(0, 0, &mut cells), None);
     assert_eq!(rt; (cells[0], cells[1]), (Some(7), Some(7)));
 }
 
@@ -99,41 +107,19 @@ fn the_way_back(rt: HostRuntime) {
         reach(1, 2, 1),
     ];
     let by = Tolls { tolls: &[3, 4, 10] };
+    let search = Search {
+        by: &by,
+        direction: Direction::Along,
+        reaches: &reaches,
+    };
     let mut cells = [None; 4096];
-    assert_eq!(rt;
-        search(&by, Direction::Along, &reaches, 0, 5, &mut cells),
-        Some(3)
-    );
-    assert_eq!(rt;
-        back_step(&by, Direction::Along, &reaches, &cells, 1, 2),
-        Some(0)
-    );
-    assert_eq!(rt;
-        back_step(&by, Direction::Along, &reaches, &cells, 2, 2),
-        Some(3)
-    );
-    assert_eq!(rt;
-        back_step(&by, Direction::Along, &reaches, &cells, 1, 1),
-        Some(1)
-    );
-    assert_eq!(rt;
-        back_step(&by, Direction::Along, &reaches, &cells, 2, 3),
-        None
-    );
-    assert_eq!(rt;
-        back_step(&by, Direction::Along, &reaches, &cells, 0, 0),
-        None
-    );
-    assert_eq!(rt;
-        back_step(&by, Direction::Along, &reaches, &cells, 64, 0),
-        None
-    );
-    assert_eq!(rt;
-        back_step(&by, Direction::Along, &reaches, &cells, 1, 64),
-        None
-    );
-    assert_eq!(rt;
-        back_step(&by, Direction::Along, &reaches, &cells[0..4095], 1, 1),
-        None
-    );
+    assert_eq!(rt; search.run(0, 5, &mut cells), Some(3));
+    assert_eq!(rt; search.back_step(&cells, 1, 2), Some(0));
+    assert_eq!(rt; search.back_step(&cells, 2, 2), Some(3));
+    assert_eq!(rt; search.back_step(&cells, 1, 1), Some(1));
+    assert_eq!(rt; search.back_step(&cells, 2, 3), None);
+    assert_eq!(rt; search.back_step(&cells, 0, 0), None);
+    assert_eq!(rt; search.back_step(&cells, 64, 0), None);
+    assert_eq!(rt; search.back_step(&cells, 1, 64), None);
+    assert_eq!(rt; search.back_step(&cells[0..4095], 1, 1), None);
 }

@@ -3,10 +3,10 @@ ghost use Rattle.std.specs.Prelude.{◌≡◌, ℕ, ◌+◌, ◌-◌, ◌*◌, �
 ghost use Rattle.search.specs.Reaches.{all_turned};
 ghost use Rattle.search.specs.WayBack.{brings, bringer, row_of, step_back, WaysBackAreWalks};
 
-use crate::reaches::{Direction, PLACES, Place, Reach};
+use crate::reaches::{PLACES, Place, Reach};
 use crate::reckoning::Reckoning;
 use crate::rounds::{betters, go_on};
-use crate::rows::CELLS;
+use crate::rows::{CELLS, Search};
 
 // Whether a reach brings to a place, from the row at p, a label at least as good as z.
 fn brings_to<R: Reckoning>(
@@ -27,46 +27,39 @@ fn brings_to<R: Reckoning>(
     !betters(by, go_on(by, e.gate, here), Some(z))
 }
 
-// The number of the first reach that does.
-fn first_bringer<R: Reckoning>(
-    by: &R,
-    direction: Direction,
-    reaches: &[Reach],
-    cells: &[Option<R::Label>],
-    p: usize,
-    place: Place,
-    z: R::Label,
-) -> Option<usize>
-    requires { p + 64 ≤ length cells.now }
-    ensures { result ≡ bringer (R.good by.now) (R.goes by.now) (λ u. slice_index_or cells.now (p + u) None) place z 0 (all_turned direction reaches.now) }
-{
-    for (i, reach) in reaches.iter().enumerate() {
-        if brings_to(by, cells, p, place, z, direction.turn(*reach)) {
-            return Some(i);
+impl<R: Reckoning> Search<'_, R> {
+    // The number of the first reach that does.
+    fn first_bringer(
+        self,
+        cells: &[Option<R::Label>],
+        p: usize,
+        place: Place,
+        z: R::Label,
+    ) -> Option<usize>
+        requires { p + 64 ≤ length cells.now }
+        ensures { result ≡ bringer (R.good self.entry.by.now) (R.goes self.entry.by.now) (λ u. slice_index_or cells.now (p + u) None) place z 0 (all_turned self.entry.direction self.entry.reaches.now) }
+    {
+        for (i, reach) in self.reaches.iter().enumerate() {
+            if brings_to(self.by, cells, p, place, z, self.direction.turn(*reach)) {
+                return Some(i);
+            }
         }
+        None
     }
-    None
-}
 
-// The number of the reach by which the label at a place came into a row of cells that a search filled. From the least
-// row in which a label stands, step after step, it leads back along a walk of just so many reaches with that label.
-pub fn back_step<R: Reckoning>(
-    by: &R,
-    direction: Direction,
-    reaches: &[Reach],
-    cells: &[Option<R::Label>],
-    row: usize,
-    place: Place,
-) -> Option<usize>
-    ensures step { result ≡ step_back (R.good by.now) (R.goes by.now) (all_turned direction reaches.now) cells.now row place }
-    ensures walks { WaysBackAreWalks (R.good by.now) (R.goes by.now) (all_turned direction reaches.now) cells.now }
-{
-    if row == 0 || row >= 64 || place >= PLACES || cells.len() < CELLS {
-        return None;
-    }
-    let here = cells[64 * row + usize::from(place)];
-    match here {
-        Some(z) => first_bringer(by, direction, reaches, cells, 64 * (row - 1), place, z),
-        None => None,
+    // The number of the reach by which the label at a place came into a row of cells that a search filled. From the least
+    // row in which a label stands, step after step, it leads back along a walk of just so many reaches with that label.
+    pub fn back_step(self, cells: &[Option<R::Label>], row: usize, place: Place) -> Option<usize>
+        ensures step { result ≡ step_back (R.good self.entry.by.now) (R.goes self.entry.by.now) (all_turned self.entry.direction self.entry.reaches.now) cells.now row place }
+        ensures walks { WaysBackAreWalks (R.good self.entry.by.now) (R.goes self.entry.by.now) (all_turned self.entry.direction self.entry.reaches.now) cells.now }
+    {
+        if row == 0 || row >= 64 || place >= PLACES || cells.len() < CELLS {
+            return None;
+        }
+        let here = cells[64 * row + usize::from(place)];
+        match here {
+            Some(z) => self.first_bringer(cells, 64 * (row - 1), place, z),
+            None => None,
+        }
     }
 }

@@ -1,7 +1,7 @@
 // A search over a small chart, printed row by row.
 use crate::texts::Cell;
 use search::reaches::{Direction, Reach};
-use search::rows::search;
+use search::rows::Search;
 use search::tolls::Tolls;
 use std::io;
 
@@ -30,22 +30,24 @@ pub(crate) fn show_search(rt: &HostRuntime) -> io::Result<()> {
         },
     ];
     let by = Tolls { tolls: &[3, 4, 10] };
+    let search = Search {
+        by: &by,
+        direction: Direction::Along,
+        reaches: &reaches,
+    };
     let mut cells = [None; 4096];
     println!(rt; "search from place 0, gates with tolls 3, 4 and 10")?;
-    if let Some(last) = search(&by, Direction::Along, &reaches, 0, 0, &mut cells) {
-        for k in 0..last.min(63) + 1 {
-            let at = 64 * k;
-            let a = Cell { label: cells[at] };
-            let b = Cell {
-                label: cells[at + 1],
-            };
-            let c = Cell {
-                label: cells[at + 2],
-            };
-            let d = Cell {
-                label: cells[at + 3],
-            };
-            println!(rt; "row {k}: {a} {b} {c} {d}")?;
+    if let Some(last) = search.run(0, 0, &mut cells) {
+        for (k, row) in (0..=last).zip(cells.chunks(64)) {
+            if let [a, b, c, d, ..] = row {
+                println!(rt;
+                    "row {k}: {} {} {} {}",
+                    Cell(*a),
+                    Cell(*b),
+                    Cell(*c),
+                    Cell(*d)
+                )?;
+            }
         }
     }
     Ok(())

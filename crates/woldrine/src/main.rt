@@ -4,39 +4,20 @@
 
 use crate::charts::show_search;
 use crate::notes::{lift, post};
-use crate::texts::Checked;
 use crate::trips::{Asked, back, last, next, out};
 use books::book::{Book, Gate, Instant};
-use books::faults::Finding;
-use books::tides::{Tide, TideBook};
-use books::windows::{Window, WindowBook};
+use books::tides::TideBook;
+use books::windows::WindowBook;
 use layers::notices::{Notice, Noticed};
 use layers::two_books::TwoBooks;
 use layers::worked::worked_examples;
+use samples::{Sample, TIDE, WINDOW, faulty_books};
 use std::io;
 
 mod charts;
 mod notes;
 mod texts;
 mod trips;
-
-const WINDOW: Window = Window {
-    gate: 0,
-    begin: 10,
-    end: 95,
-};
-
-const TIDE: Tide = Tide {
-    phase: 60,
-    period: 745,
-    length: 180,
-    passage: 30,
-};
-
-fn show_check(rt: &HostRuntime, what: &str, found: Option<Finding>) -> io::Result<()> {
-    let shown = Checked { found };
-    println!(rt; "check of {what}: {shown}")
-}
 
 // Out through two gates, one after the other.
 fn go_out<F: Book, S: Book>(
@@ -83,8 +64,16 @@ fn travel(rt: &HostRuntime) -> io::Result<()> {
     };
     go_out(rt, near, far)?;
     go_back(rt, near, far, 300)?;
-    show_check(rt, "the timed gate and its window", timed.check())?;
-    show_check(rt, "the tide gate", tidal.check())
+    let timed = Sample {
+        name: "the timed gate and its window",
+        found: timed.check(),
+    };
+    let tidal = Sample {
+        name: "the tide gate",
+        found: tidal.check(),
+    };
+    println!(rt; "{timed}")?;
+    println!(rt; "{tidal}")
 }
 
 fn notice(gate: Gate, begin: Instant, end: Instant) -> Notice {
@@ -158,46 +147,12 @@ fn layered(rt: &HostRuntime) -> io::Result<()> {
     pair(rt, &mut book, notice(1, 130, 160), notice(1, 70, 120), 189)
 }
 
-fn check_timed<'a>(
-    rt: &HostRuntime,
-    what: &str,
-    passages: &'a [u16],
-    windows: &'a [Window],
-) -> io::Result<()> {
-    let book = WindowBook::new(passages, windows);
-    show_check(rt, what, book.check())
-}
-
-fn check_tides(rt: &HostRuntime, what: &str, tides: &[Tide]) -> io::Result<()> {
-    let book = TideBook::new(tides);
-    show_check(rt, what, book.check())
-}
-
 // One book for each kind of fault.
 fn check_faulty(rt: &HostRuntime) -> io::Result<()> {
-    let none: [Window; 0] = [];
-    let good = [20];
-    let too_many = [20; 257];
-    check_timed(rt, "257 timed gates", &too_many, &none)?;
-    let no_time = [20, 0];
-    check_timed(rt, "passage times 20 and 0", &no_time, &none)?;
-    let astray = [WINDOW, Window { gate: 1, ..WINDOW }];
-    check_timed(
-        rt,
-        "one timed gate and windows of gates 0 and 1",
-        &good,
-        &astray,
-    )?;
-    let reversed = [Window {
-        begin: 96,
-        ..WINDOW
-    }];
-    check_timed(rt, "a window from 96 to 95", &good, &reversed)?;
-    let overlong = [Tide {
-        length: 746,
-        ..TIDE
-    }];
-    check_tides(rt, "a tide of period 745 and length 746", &overlong)
+    for sample in faulty_books() {
+        println!(rt; "{sample}")?;
+    }
+    Ok(())
 }
 
 fn main(rt: HostRuntime) -> io::Result<()> {

@@ -2,29 +2,21 @@
 ghost use Rattle.std.specs.Prelude.{◌≡◌};
 ghost use Rattle.layers.specs.Notices.{after_post, after_lift};
 
-use crate::texts::{Reply, Span};
 use books::book::Book;
 use layers::notices::{Notice, Noticed};
+use layers::replies::Reply;
 use std::io;
 
 pub fn post<B: Book>(rt: &HostRuntime, book: &mut Noticed<B>, notice: Notice) -> io::Result<()>
     ensures { book.new.notices.items ≡ after_post (B.Book.gates book.old.book) book.old.notices.items notice }
 {
-    let span = Span { notice };
-    let reply = Reply {
-        done: "posted",
-        outcome: book.post(notice),
-    };
-    println!(rt; "post {span}: {reply}")
+    let outcome = book.post(notice).map(|()| "posted");
+    println!(rt; "post {notice}: {}", Reply { outcome })
 }
 
 pub fn lift<B: Book>(rt: &HostRuntime, book: &mut Noticed<B>, notice: Notice) -> io::Result<()>
     ensures { book.new.notices.items ≡ after_lift book.old.notices.items notice }
 {
-    let span = Span { notice };
-    let reply = Reply {
-        done: "lifted",
-        outcome: book.lift(notice),
-    };
-    println!(rt; "lift {span}: {reply}")
+    let outcome = book.lift(notice).map(|()| "lifted");
+    println!(rt; "lift {notice}: {}", Reply { outcome })
 }

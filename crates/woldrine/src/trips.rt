@@ -1,12 +1,13 @@
 // Taking a boat through gates, each step printed.
-ghost use Rattle.std.specs.Prelude.{◌≡◌, IfOk};
+ghost use Rattle.std.specs.Prelude.{◌≡◌, Some, IfOk};
 ghost use Rattle.books.specs.Meaning.{first_open, last_open};
+ghost use Rattle.woldrine.specs.Texts.{gate_text};
 ghost use Rattle.woldrine.specs.Trips.{out_at, in_by};
 
 use crate::texts::Passage;
 use books::book::{Book, Gate, Instant};
 use books::passages::{last_passage, next_passage};
-use std::io;
+use std::{fmt, io};
 
 // A gate that is asked, with the word that its kind is printed by.
 #[derive_where(Clone, Copy)]
@@ -14,6 +15,14 @@ pub struct Asked<'a, B> {
     pub kind: &'a str,
     pub book: &'a B,
     pub gate: Gate,
+}
+
+impl<B> fmt::Display for Asked<'_, B> {
+    ghost output = { λ asked. Some (gate_text asked.kind.now asked.gate) };
+
+    fn fmt<W: fmt::Write>(&self, f: &mut fmt::Formatter<W>) -> fmt::Result {
+        write!(f, "{} gate {}", self.kind, self.gate)
+    }
 }
 
 // Asks for the next passage.
@@ -25,10 +34,7 @@ pub fn next<B: Book>(
     ensures { IfOk result (λ a. a ≡ first_open (B.Book.exits asked.entry.book.now asked.entry.gate) t) }
 {
     let times = next_passage(asked.book, asked.gate, t);
-    let kind = asked.kind;
-    let gate = asked.gate;
-    let shown = Passage { times };
-    println!(rt; "first of {kind} gate {gate} from {t}: {shown}")?;
+    println!(rt; "first of {asked} from {t}: {}", Passage(times))?;
     Ok(times)
 }
 
@@ -41,10 +47,7 @@ pub fn last<B: Book>(
     ensures { IfOk result (λ a. a ≡ last_open (B.Book.exits asked.entry.book.now asked.entry.gate) t) }
 {
     let times = last_passage(asked.book, asked.gate, t);
-    let kind = asked.kind;
-    let gate = asked.gate;
-    let shown = Passage { times };
-    println!(rt; "last of {kind} gate {gate} by {t}: {shown}")?;
+    println!(rt; "last of {asked} by {t}: {}", Passage(times))?;
     Ok(times)
 }
 
@@ -60,10 +63,7 @@ pub fn out<F: Book, S: Book>(
     let Some((_, between)) = next(rt, near, ready)? else {
         return Ok(None);
     };
-    let Some((_, exit)) = next(rt, far, between)? else {
-        return Ok(None);
-    };
-    Ok(Some(exit))
+    Ok(next(rt, far, between)?.map(|(_, exit)| exit))
 }
 
 // Backwards from a due instant; when the boat has to enter the first of the two gates.
@@ -78,8 +78,5 @@ pub fn back<F: Book, S: Book>(
     let Some((between, _)) = last(rt, far, due)? else {
         return Ok(None);
     };
-    let Some((entry, _)) = last(rt, near, between)? else {
-        return Ok(None);
-    };
-    Ok(Some(entry))
+    Ok(last(rt, near, between)?.map(|(entry, _)| entry))
 }

@@ -3,14 +3,14 @@ use Rattle.search.specs.Reaches.{all_turned}
 use Rattle.search.specs.Rows.{RoundBefore, Carried}
 use Rattle.search.proofs.CellSteps.{advanced_row, advanced_told}
 use Rattle.search.proofs.Skipped.{before_kept}
-use Rattle.search.proofs.rows.step.Goals as goal
+use Rattle.search.proofs.rows.Search.step.Goals as goal
 
 pub returns : goal.returns
 returns g c =
-    let a = g.R.Reckoning.good c.args.by.now in
-    let b = g.R.Reckoning.goes c.args.by.now in
+    let a = g.R.Reckoning.good c.args.self.by.now in
+    let b = g.R.Reckoning.goes c.args.self.by.now in
     let k = c.args.k in
-    let es = all_turned c.args.direction c.args.reaches.now in
+    let es = all_turned c.args.self.direction c.args.self.reaches.now in
     let apart : 64 * (c.args.k - 1) + 64 ≤ 64 * c.args.k = omega arith in
     let long : 64 * c.args.k + 64 ≤ length c.carry.new.cells = omega arith in
     let old = c.args.cells.now in

@@ -5,14 +5,14 @@ use Rattle.std.proofs.lemmas.Bool.Decides.{nat_tests}
 use Rattle.search.specs.Reaches.{all_turned}
 use Rattle.search.specs.WayBack.{row_of, came_by, readable}
 use Rattle.search.proofs.Backwards.{ways_back}
-use Rattle.search.proofs.ways.back_step.Goals as goal
+use Rattle.search.proofs.rows.Search.back_step.Goals as goal
 
 pub returns-then-row-eq0 : goal.returns-then-row-eq0
 returns-then-row-eq0 g c =
-    let a = g.R.Reckoning.good c.args.by.now in
-    let b = g.R.Reckoning.goes c.args.by.now in
-    let r = c.args.by.now in
-    let es = all_turned c.args.direction c.args.reaches.now in
+    let a = g.R.Reckoning.good c.args.self.by.now in
+    let b = g.R.Reckoning.goes c.args.self.by.now in
+    let r = c.args.self.by.now in
+    let es = all_turned c.args.self.direction c.args.self.reaches.now in
     let cells = c.args.cells.now in
     let k = c.args.row in
     let v = c.args.place in
@@ -25,10 +25,10 @@ returns-then-row-eq0 g c =
 
 pub returns-in-Some : goal.returns-in-Some
 returns-in-Some g c =
-    let a = g.R.Reckoning.good c.args.by.now in
-    let b = g.R.Reckoning.goes c.args.by.now in
-    let r = c.args.by.now in
-    let es = all_turned c.args.direction c.args.reaches.now in
+    let a = g.R.Reckoning.good c.args.self.by.now in
+    let b = g.R.Reckoning.goes c.args.self.by.now in
+    let r = c.args.self.by.now in
+    let es = all_turned c.args.self.direction c.args.self.reaches.now in
     let cells = c.args.cells.now in
     let k = c.args.row in
     let v = c.args.place in
@@ -43,10 +43,10 @@ returns-in-Some g c =
 
 pub returns-in-None : goal.returns-in-None
 returns-in-None g c =
-    let a = g.R.Reckoning.good c.args.by.now in
-    let b = g.R.Reckoning.goes c.args.by.now in
-    let r = c.args.by.now in
-    let es = all_turned c.args.direction c.args.reaches.now in
+    let a = g.R.Reckoning.good c.args.self.by.now in
+    let b = g.R.Reckoning.goes c.args.self.by.now in
+    let r = c.args.self.by.now in
+    let es = all_turned c.args.self.direction c.args.self.reaches.now in
     let cells = c.args.cells.now in
     let k = c.args.row in
     let v = c.args.place in

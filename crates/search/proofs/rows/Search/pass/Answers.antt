@@ -6,24 +6,24 @@ use Rattle.search.specs.Rows.{rounded, stirred}
 use Rattle.search.specs.Walks.{Good}
 use Rattle.search.proofs.CellSteps.{relaxed_outside, rounded_more, stirred_more}
 use Rattle.search.proofs.Skipped.{quiet, no_worse_on, rounded_skip, stirred_skip, turned_has}
-use Rattle.search.proofs.rounds.pass.Goals as goal
-use Rattle.search.proofs.rounds.pass.Goals.{then-is_new, else-is_new}
+use Rattle.search.proofs.rows.Search.pass.Goals as goal
+use Rattle.search.proofs.rows.Search.pass.Goals.{then-is_new, else-is_new}
 
 pub loop-reach-init : goal.loop-reach-init
-loop-reach-init g c = ((λ h. (refl, refl, λ v l z o. subst (λ (p : Option g.row.R-Label.Denot). Good (g.R.Reckoning.good c.args.by.now) p z) (sym (h.0 v l)) o)), (λ j h. refl), λ j h. refl)
+loop-reach-init g c = ((λ h. (refl, refl, λ v l z o. subst (λ (p : Option g.row.R-Label.Denot). Good (g.R.Reckoning.good c.args.self.by.now) p z) (sym (h.0 v l)) o)), (λ j h. refl), λ j h. refl)
 
 pub loop-reach-preserved : goal.loop-reach-preserved
 loop-reach-preserved g c =
     let L = g.row.R-Label.Denot in
-    let r = c.args.by.now in
+    let r = c.args.self.by.now in
     let a = g.R.Reckoning.good r in
     let b = g.R.Reckoning.goes r in
     let laws = g.R.Reckoning.laws r in
     let k = c.args.k in
     let p = 64 * (c.args.k - 1) in
     let q = 64 * c.args.k in
-    let d = c.args.direction in
-    let es = c.args.reaches.now in
+    let d = c.args.self.direction in
+    let es = c.args.self.reaches.now in
     let i = c.loop-reach.reach-index in
     let t = c.turn-e.result in
     let old = c.args.cells.now in
@@ -58,13 +58,13 @@ loop-reach-preserved g c =
 
 pub returns : goal.returns
 returns g c =
-    let a = g.R.Reckoning.good c.args.by.now in
-    let b = g.R.Reckoning.goes c.args.by.now in
+    let a = g.R.Reckoning.good c.args.self.by.now in
+    let b = g.R.Reckoning.goes c.args.self.by.now in
     let p = 64 * (c.args.k - 1) in
     let q = 64 * c.args.k in
     record {
-      cells = λ h. sym (at_drop_all (λ l. rounded a b p q c.loop-reach.cells (all_turned c.args.direction l)) c.args.reaches.now c.loop-reach.reach-index c.loop-reach-test.false) ∙ (c.loop-reach.invariant.0 h).0;
-      told = λ h. sym (at_drop_all (λ l. stirred a b p q c.loop-reach.cells c.loop-reach.told (all_turned c.args.direction l)) c.args.reaches.now c.loop-reach.reach-index c.loop-reach-test.false) ∙ (c.loop-reach.invariant.0 h).1;
+      cells = λ h. sym (at_drop_all (λ l. rounded a b p q c.loop-reach.cells (all_turned c.args.self.direction l)) c.args.self.reaches.now c.loop-reach.reach-index c.loop-reach-test.false) ∙ (c.loop-reach.invariant.0 h).0;
+      told = λ h. sym (at_drop_all (λ l. stirred a b p q c.loop-reach.cells c.loop-reach.told (all_turned c.args.self.direction l)) c.args.self.reaches.now c.loop-reach.reach-index c.loop-reach-test.false) ∙ (c.loop-reach.invariant.0 h).1;
       below = c.loop-reach.invariant.2;
       above = c.loop-reach.invariant.1;
     }
