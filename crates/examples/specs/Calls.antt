@@ -1,23 +1,19 @@
 -- What each call of a sheet replies. Assumes nothing.
-use Rattle.std.specs.Prelude.{◌≡◌, ℕ, suc, ◌-◌, List, []}
+use Rattle.std.specs.Prelude.{◌≡◌, ℕ, vec_items, Result}
+use Rattle.std.specs.Int.NonZero.{non_zero_u16_get}
 use Rattle.books.specs.Meaning.{Exits}
 use Rattle.layers.specs.Notices.{noticed_exits}
-use Rattle.layers.specs.declared.notices.Notice.{Notice}
-use Rattle.search.specs.declared.reaches.Reach.{Reach}
-use Rattle.examples.specs.Changes.{State, change_text, repeated}
+use Rattle.planner.specs.declared.charts.Planner.{Planner}
+use Rattle.planner.specs.declared.refusals.Refusal.{Refusal}
+use Rattle.examples.specs.Changes.{unasked, changed, repeated}
 use Rattle.examples.specs.Questions.{Answered}
 use Rattle.examples.specs.Texts.{reply_text}
 use Rattle.examples.specs.declared.cases.Call.{Call}
-use Rattle.examples.specs.declared.cases.Call.TheVariants.{Change, Series, Question}
-use Rattle.examples.specs.declared.replies.Reply.{Reply}
+use Rattle.examples.specs.declared.cases.Call.TheVariants.{Change, Repeat, Question}
+use Rattle.examples.specs.declared.replies.Done.{Done}
 
--- a chart and its notices, before anything is replied
-abbrev pub unasked : List Reach → List Notice → State
-unasked rs ns = record { chart = rs; notices = ns; text = [] }
-
--- over a book of so many gates with these exits, a chart and notices, lent so many scratch cells and so many entries of a
--- leg list
-abbrev pub Replied : ℕ → Exits → List Reach → List Notice → ℕ → ℕ → Call → Reply → Type 0
-Replied gates ex rs ns cells legs (Change c) r = reply_text r ≡ change_text gates rs ns c
-Replied gates ex rs ns cells legs (Series n s) r = reply_text r ≡ (repeated gates (suc (n - 1)) 0 s (unasked rs ns)).text
-Replied gates ex rs ns cells legs (Question q) r = Answered cells legs rs (noticed_exits ns ex) q r
+-- over a planner whose book has so many gates and these exits, lent so many scratch cells and so many entries of a leg list
+abbrev pub Replied : {B : Type 0} → ℕ → Exits → Planner B → ℕ → ℕ → Call → Result Done Refusal → Type 0
+Replied gates ex p cells legs (Change c) r = reply_text r ≡ (changed gates c (unasked p)).text
+Replied gates ex p cells legs (Repeat n) r = reply_text r ≡ (repeated gates (non_zero_u16_get n.count) 0 n.series (unasked p)).text
+Replied gates ex p cells legs (Question q) r = Answered cells legs (vec_items p.reaches) (noticed_exits (vec_items p.noticed.notices) ex) q r

@@ -1,24 +1,25 @@
 -- What changes of a sheet reply and leave, over a book of so many gates. Assumes nothing.
-use Rattle.std.specs.Prelude.{ℕ, zero, suc, ◌+◌, List, ◌++◌, length, Some, None, codes, decimal, Option}
+use Rattle.std.specs.Prelude.{ℕ, zero, suc, ◌+◌, List, [], ◌++◌, length, Some, None, vec_items, codes, decimal, Option}
 use Rattle.layers.specs.Notices.{post_refusal, after_post, lift_refusal, after_lift}
 use Rattle.layers.specs.declared.notices.Notice.{Notice}
 use Rattle.search.specs.declared.reaches.Reach.{Reach}
 use Rattle.planner.specs.Charts.{lay_refusal, after_lay}
+use Rattle.planner.specs.declared.charts.Planner.{Planner}
 use Rattle.examples.specs.Series.{change_at, series_after}
 use Rattle.examples.specs.declared.series.Change.{Change}
 use Rattle.examples.specs.declared.series.Change.TheVariants.{Lay, Post, Lift}
 use Rattle.examples.specs.declared.series.Series.{Series}
 
 -- the text for what was done, or the number with which it is declined
-abbrev pub done_text : List ℕ → Option ℕ → List ℕ
-done_text done None = done
-done_text done (Some f) = codes "declined " ++ decimal f
+abbrev pub unless_declined : List ℕ → Option ℕ → List ℕ
+unless_declined done None = done
+unless_declined done (Some f) = codes "declined " ++ decimal f
 
 -- the text of the reply to a change
 abbrev pub change_text : ℕ → List Reach → List Notice → Change → List ℕ
-change_text gates rs ns (Lay r) = done_text (codes "reach " ++ decimal (length rs)) (lay_refusal gates rs r)
-change_text gates rs ns (Post n) = done_text (codes "posted") (post_refusal gates ns n)
-change_text gates rs ns (Lift n) = done_text (codes "lifted") (lift_refusal ns n)
+change_text gates rs ns (Lay r) = unless_declined (codes "reach " ++ decimal (length rs)) (lay_refusal gates rs r)
+change_text gates rs ns (Post n) = unless_declined (codes "posted") (post_refusal gates ns n)
+change_text gates rs ns (Lift n) = unless_declined (codes "lifted") (lift_refusal ns n)
 
 -- the chart after it
 abbrev pub chart_after : ℕ → List Reach → Change → List Reach
@@ -38,6 +39,15 @@ pub record State : Type 0 where
   pub notices : List Notice
   pub text : List ℕ
 
+-- of a planner, with the text of the last reply
+abbrev pub state : {B : Type 0} → Planner B → List ℕ → State
+state p x = record { chart = vec_items p.reaches; notices = vec_items p.noticed.notices; text = x }
+
+-- before anything is replied
+abbrev pub unasked : {B : Type 0} → Planner B → State
+unasked p = state p []
+
+-- after a change
 abbrev pub changed : ℕ → Change → State → State
 changed gates c st =
     record { chart = chart_after gates st.chart c; notices = notices_after gates st.notices c; text = change_text gates st.chart st.notices c }

@@ -1,11 +1,12 @@
 -- The records of a sheet's book. Assumes nothing.
-use Rattle.std.specs.Prelude.{ℕ, List, [], ◌∷◌, ◌++◌, Some, None, vec_items, Option}
+use Rattle.std.specs.Prelude.{ℕ, List, [], ◌∷◌, ◌++◌, Ok, Err, vec_items, Result}
 use Rattle.books.specs.declared.tides.Tide.{Tide}
 use Rattle.books.specs.declared.windows.Window.{Window}
 use Rattle.examples.specs.declared.cases.Case.{Case}
 use Rattle.examples.specs.declared.cases.Line.{Line}
 use Rattle.examples.specs.declared.cases.Line.TheVariants.{Aside, Sheet, Record, Room, Call}
 use Rattle.examples.specs.declared.cases.Record.TheVariants.{Timed, Window as Windowed, Tide as Tidal}
+use Rattle.examples.specs.declared.reading.Unreadable.{Unreadable}
 use Rattle.examples.specs.declared.records.Records.{Records}
 
 -- the passage times of the timed gates, the windows and the tides
@@ -21,15 +22,15 @@ abbrev pub nothing : Lists
 nothing = record { passages = []; windows = []; tides = [] }
 
 -- with the record of a line, if it is one
-abbrev pub added : Option Line → Lists → Lists
-added None b = b
-added (Some Aside) b = b
-added (Some Sheet) b = b
-added (Some (Record (Timed p))) b = record { passages = b.passages ++ (p ∷ []); windows = b.windows; tides = b.tides }
-added (Some (Record (Windowed w))) b = record { passages = b.passages; windows = b.windows ++ (w ∷ []); tides = b.tides }
-added (Some (Record (Tidal t))) b = record { passages = b.passages; windows = b.windows; tides = b.tides ++ (t ∷ []) }
-added (Some (Room r)) b = b
-added (Some (Call c)) b = b
+abbrev pub added : Result Line Unreadable → Lists → Lists
+added (Err e) b = b
+added (Ok Aside) b = b
+added (Ok Sheet) b = b
+added (Ok (Record (Timed p))) b = record { passages = b.passages ++ (p ∷ []); windows = b.windows; tides = b.tides }
+added (Ok (Record (Windowed w))) b = record { passages = b.passages; windows = b.windows ++ (w ∷ []); tides = b.tides }
+added (Ok (Record (Tidal t))) b = record { passages = b.passages; windows = b.windows; tides = b.tides ++ (t ∷ []) }
+added (Ok (Room r)) b = b
+added (Ok (Call c)) b = b
 
 -- with the records of some cases
 abbrev pub gathered : Lists → List Case → Lists

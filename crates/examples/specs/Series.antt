@@ -1,5 +1,6 @@
 -- Changes that are made one after another. Assumes nothing.
-use Rattle.std.specs.Prelude.{ℕ, ◌+◌, ◌*◌, ◌%◌, cond, ◌==◌}
+use Rattle.std.specs.Prelude.{ℕ, ◌+◌, ◌*◌, ◌%◌}
+use Rattle.std.specs.Int.NonZero.{non_zero_u16_get}
 use Rattle.search.specs.declared.reaches.Reach.{Reach}
 use Rattle.examples.specs.declared.series.Change.{Change}
 use Rattle.examples.specs.declared.series.Change.TheVariants.{Lay}
@@ -11,14 +12,10 @@ use Rattle.examples.specs.declared.series.Series.TheVariants.{Same, Chain, Scatt
 abbrev pub moved : ℕ → ℕ
 moved x = (75 * x + 74) % 65537
 
--- the remainder of x by n, and 0 where n is 0
-abbrev pub remainder : ℕ → ℕ → ℕ
-remainder x n = cond (n == 0) 0 (x % n)
-
 -- the reach that takes the next three numbers
 abbrev pub scattered : Scatter → Reach
 scattered s =
-    record { from = remainder (moved s.x) s.places; to = remainder (moved (moved s.x)) s.places; gate = remainder (moved (moved (moved s.x))) s.gates }
+    record { from = moved s.x % non_zero_u16_get s.places; to = moved (moved s.x) % non_zero_u16_get s.places; gate = moved (moved (moved s.x)) % non_zero_u16_get s.gates }
 
 -- what is left after it
 abbrev pub moved_on : Scatter → Scatter

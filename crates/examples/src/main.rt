@@ -6,6 +6,7 @@ use crate::runs::run;
 use std::io;
 
 mod cases;
+mod reading;
 mod records;
 mod replies;
 mod runs;

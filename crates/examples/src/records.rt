@@ -1,5 +1,5 @@
 // The records of a sheet's book.
-ghost use Rattle.std.specs.Prelude.{◌≡◌, IfOk, OnOk};
+ghost use Rattle.std.specs.Prelude.{◌≡◌, Ok, IfOk, OnOk};
 ghost use Rattle.examples.specs.Records.{lists, nothing, added, gathered};
 
 use crate::cases::{Case, Line, Record};
@@ -15,15 +15,13 @@ pub(crate) struct Records {
 }
 
 impl Records {
-    // Takes up the line's record, if it is one.
-    fn add(&mut self, line: Option<Line>) -> Result<(), AllocError>
-        ensures { OnOk result (lists self.new ≡ added line (lists self.old)) }
+    fn add(&mut self, record: Record) -> Result<(), AllocError>
+        ensures { OnOk result (lists self.new ≡ added (Ok (Line.Record «record»)) (lists self.old)) }
     {
-        match line {
-            Some(Line::Record(Record::Timed(passage))) => self.passages.push(passage)?,
-            Some(Line::Record(Record::Window(window))) => self.windows.push(window)?,
-            Some(Line::Record(Record::Tide(tide))) => self.tides.push(tide)?,
-            _ => {}
+        match record {
+            Record::Timed(passage) => self.passages.push(passage)?,
+            Record::Window(window) => self.windows.push(window)?,
+            Record::Tide(tide) => self.tides.push(tide)?,
         }
         Ok(())
     }
@@ -38,7 +36,9 @@ impl Records {
             tides: Vec::new(heap),
         };
         for case in cases {
-            records.add(case.line)?;
+            if let Ok(Line::Record(record)) = case.line {
+                records.add(record)?;
+            }
         }
         Ok(records)
     }

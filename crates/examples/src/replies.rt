@@ -1,9 +1,8 @@
-// What a reply is printed as.
+// What a call tells that is not declined, and how it is printed.
 ghost use Rattle.std.specs.Prelude.{Some};
-ghost use Rattle.examples.specs.Texts.{legs_text, reply_text};
+ghost use Rattle.examples.specs.Texts.{legs_text, done_text};
 
 use planner::legs::{Answer, Leg};
-use planner::refusals::Refusal;
 use std::fmt;
 
 #[derive(Clone, Copy)]
@@ -16,44 +15,33 @@ impl fmt::Display for Legs<'_> {
 
     fn fmt<W: fmt::Write>(&self, f: &mut fmt::Formatter<W>) -> fmt::Result {
         for leg in self.legs {
-            let reach = leg.reach;
-            let entry = leg.entry;
-            let exit = leg.exit;
-            write!(f, " ({reach} {entry} {exit})")?;
+            write!(f, " {leg}")?;
         }
         Ok(())
     }
 }
 
 #[derive(Clone, Copy)]
-pub(crate) enum Reply<'a> {
+pub(crate) enum Done<'a> {
     // a reach was laid, with this number
     Laid(u16),
     Posted,
     Lifted,
     // a journey, with its legs
     Found(Answer, &'a [Leg]),
-    Declined(Refusal),
 }
 
-impl fmt::Display for Reply<'_> {
-    ghost output = { λ r. Some (reply_text r) };
+impl fmt::Display for Done<'_> {
+    ghost output = { λ d. Some (done_text d) };
 
     fn fmt<W: fmt::Write>(&self, f: &mut fmt::Formatter<W>) -> fmt::Result {
         match self {
-            Reply::Laid(number) => write!(f, "reach {number}"),
-            Reply::Posted => f.write_str("posted"),
-            Reply::Lifted => f.write_str("lifted"),
-            Reply::Found(answer, legs) => {
-                let departure = answer.departure;
-                let arrival = answer.arrival;
-                let reaches = answer.reaches;
+            Done::Laid(number) => write!(f, "reach {number}"),
+            Done::Posted => f.write_str("posted"),
+            Done::Lifted => f.write_str("lifted"),
+            Done::Found(answer, legs) => {
                 let legs = Legs { legs };
-                write!(f, "{departure} {arrival} {reaches}{legs}")
-            }
-            Reply::Declined(refusal) => {
-                let number = u16::from(refusal);
-                write!(f, "declined {number}")
+                write!(f, "{answer}{legs}")
             }
         }
     }

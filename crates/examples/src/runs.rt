@@ -1,27 +1,31 @@
 // Carrying out the cases, sheet by sheet.
 use crate::cases::{Case, Line, Room};
+use crate::reading::Unreadable;
 use crate::records::Records;
 use crate::sheets::Sheet;
 use books::book::Book;
 use books::tides::TideBook;
 use books::windows::WindowBook;
+use layers::replies::Reply;
 use layers::two_books::TwoBooks;
 use planner::legs::MOST_LEGS;
 use search::rows::CELLS;
 use std::io;
 
 fn carry_out<B: Book>(rt: &HostRuntime, sheet: &mut Sheet<B>, case: Case<'_>) -> io::Result<()> {
-    let text = case.text;
-    match case.line {
-        None => println!(rt; "unreadable: {text}"),
-        Some(Line::Aside) | Some(Line::Record(_)) => Ok(()),
-        Some(Line::Sheet) => println!(rt; "{text}"),
-        Some(Line::Room(room)) => {
+    let Case { text, line } = case;
+    match line {
+        Err(Unreadable) => println!(rt; "unreadable: {text}"),
+        Ok(Line::Aside | Line::Record(_)) => Ok(()),
+        Ok(Line::Sheet) => println!(rt; "{text}"),
+        Ok(Line::Room(room)) => {
             sheet.set_room(rt.alloc(), room)?;
             println!(rt; "{text}")
         }
-        Some(Line::Call(call)) => {
-            let reply = sheet.call(call);
+        Ok(Line::Call(call)) => {
+            let reply = Reply {
+                outcome: sheet.call(call),
+            };
             println!(rt; "{text}: {reply}")
         }
     }
@@ -42,13 +46,10 @@ fn run_sheet(rt: &HostRuntime, cases: &[Case<'_>]) -> io::Result<()> {
     Ok(())
 }
 
+// What stands before the first line that starts a sheet is a sheet of its own.
 pub(crate) fn run(rt: &HostRuntime, cases: &[Case<'_>]) -> io::Result<()> {
-    let mut from = 0;
-    for (i, case) in cases.iter().enumerate() {
-        if let Some(Line::Sheet) = case.line {
-            run_sheet(rt, &cases[from..i])?;
-            from = i;
-        }
+    for sheet in cases.chunk_by(|_, case| !matches!(case.line, Ok(Line::Sheet))) {
+        run_sheet(rt, sheet)?;
     }
-    run_sheet(rt, &cases[from..])
+    Ok(())
 }

@@ -1,10 +1,12 @@
 // Changes that are made one after another.
-ghost use Rattle.std.specs.Prelude.{◌≡◌, ◌<◌};
-ghost use Rattle.examples.specs.Series.{moved, remainder, scattered, moved_on, change_at, series_after};
+ghost use Rattle.std.specs.Prelude.{◌≡◌, ◌%◌, ◌<◌};
+ghost use Rattle.std.specs.Int.NonZero.{non_zero_u16_get};
+ghost use Rattle.examples.specs.Series.{moved, scattered, moved_on, change_at, series_after};
 
 use books::book::Gate;
 use layers::notices::Notice;
 use search::reaches::Reach;
+use std::num::NonZeroU16;
 
 // A call that changes the chart or the notices.
 #[derive(Clone, Copy)]
@@ -19,8 +21,8 @@ pub(crate) enum Change {
 #[derive(Clone, Copy)]
 pub(crate) struct Scatter {
     pub(crate) x: u32,
-    pub(crate) places: u16,
-    pub(crate) gates: u16,
+    pub(crate) places: NonZeroU16,
+    pub(crate) gates: NonZeroU16,
 }
 
 #[derive(Clone, Copy)]
@@ -40,11 +42,11 @@ fn number_after(x: u32) -> u32
     ((75 * u64::from(x) + 74) % 65537) as u32
 }
 
-// A number below n, if there is one.
-fn below(x: u32, n: u16) -> u16
-    ensures { result ≡ remainder x n }
+// A number below n.
+fn below(x: u32, n: NonZeroU16) -> u16
+    ensures { result ≡ x % non_zero_u16_get n }
 {
-    if n == 0 { 0 } else { (x % u32::from(n)) as u16 }
+    (x % u32::from(n.get())) as u16
 }
 
 impl Scatter {

@@ -1,14 +1,14 @@
 // What is asked of a sheet.
 ghost use Rattle.std.specs.Prelude.{◌≡◌, ◌≤◌, length, take, IfOk, vec_len};
-ghost use Rattle.layers.specs.Notices.{noticed_exits};
 ghost use Rattle.planner.specs.Journeys.{Journey};
 ghost use Rattle.examples.specs.Calls.{Replied};
 ghost use Rattle.examples.specs.Questions.{told_answer, question_reply, QuestionOutcome, Answered};
 
 use crate::cases::{Ask, Call, Question};
-use crate::replies::Reply;
+use crate::replies::Done;
 use crate::sheets::Sheet;
 use books::book::{Book, Instant};
+use layers::notices::Noticed;
 use planner::charts::Planner;
 use planner::legs::{Answer, Leg};
 use planner::refusals::Refusal;
@@ -19,37 +19,32 @@ fn ask<B: Book>(
     cells: &mut [Option<Instant>],
     legs: &mut [Leg],
 ) -> Result<Answer, Refusal>
-    ensures reply { told_answer question.ask result ≡ question_reply (length cells.old) (length legs.old) planner.now.reaches.items (noticed_exits planner.now.noticed.notices.items (B.Book.exits planner.now.noticed.book)) question }
-    ensures journey { QuestionOutcome planner.now.reaches.items (noticed_exits planner.now.noticed.notices.items (B.Book.exits planner.now.noticed.book)) question cells.old cells.new legs.old legs.new result }
-    ensures written { IfOk result (λ ans. (ans.reaches ≤ length legs.new) × Journey planner.now.reaches.items (noticed_exits planner.now.noticed.notices.items (B.Book.exits planner.now.noticed.book)) question.from question.to ans.departure ans.arrival (take ans.reaches legs.new)) }
+    ensures reply { told_answer question.ask result ≡ question_reply (length cells.old) (length legs.old) planner.now.reaches.items (⟦<Noticed<B> as Book>⟧.exits planner.now.noticed) question }
+    ensures journey { QuestionOutcome planner.now.reaches.items (⟦<Noticed<B> as Book>⟧.exits planner.now.noticed) question cells.old cells.new legs.old legs.new result }
 {
-    let from = question.from;
-    let to = question.to;
-    let t = question.instant;
-    match question.ask {
-        Ask::Foremost => planner.foremost(from, to, t, cells, legs),
-        Ask::Fewest => planner.fewest(from, to, t, cells, legs),
-        Ask::Latest => planner.latest(from, to, t, cells, legs),
+    let Question { ask, trip } = question;
+    match ask {
+        Ask::Foremost => planner.foremost(trip, cells, legs),
+        Ask::Fewest => planner.fewest(trip, cells, legs),
+        Ask::Latest => planner.latest(trip, cells, legs),
     }
 }
 
 impl<B: Book> Sheet<B> {
-    fn answer(&mut self, question: Question) -> Reply<'_>
-        ensures { Answered (vec_len self.old.cells) (vec_len self.old.legs) self.old.planner.reaches.items (noticed_exits self.old.planner.noticed.notices.items (B.Book.exits self.old.planner.noticed.book)) question result }
+    fn answer(&mut self, question: Question) -> Result<Done<'_>, Refusal>
+        ensures { Answered (vec_len self.old.cells) (vec_len self.old.legs) self.old.planner.reaches.items (⟦<Noticed<B> as Book>⟧.exits self.old.planner.noticed) question result }
     {
         let legs = self.legs.as_mut_slice();
-        match ask(&self.planner, question, &mut self.cells, legs) {
-            Ok(answer) => Reply::Found(answer, &legs[0..usize::from(answer.reaches)]),
-            Err(refusal) => Reply::Declined(refusal),
-        }
+        let answer = ask(&self.planner, question, &mut self.cells, legs)?;
+        Ok(Done::Found(answer, &legs[..usize::from(answer.reaches)]))
     }
 
-    pub(crate) fn call(&mut self, call: Call) -> Reply<'_>
-        ensures { Replied (B.Book.gates self.old.planner.noticed.book) (B.Book.exits self.old.planner.noticed.book) self.old.planner.reaches.items self.old.planner.noticed.notices.items (vec_len self.old.cells) (vec_len self.old.legs) call result }
+    pub(crate) fn call(&mut self, call: Call) -> Result<Done<'_>, Refusal>
+        ensures { Replied (B.Book.gates self.old.planner.noticed.book) (B.Book.exits self.old.planner.noticed.book) self.old.planner (vec_len self.old.cells) (vec_len self.old.legs) call result }
     {
         match call {
             Call::Change(change) => self.change(change),
-            Call::Series(count, series) => self.repeat(count, series),
+            Call::Repeat(repeat) => self.repeat(repeat),
             Call::Question(question) => self.answer(question),
         }
     }
