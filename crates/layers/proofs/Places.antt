@@ -1,6 +1,6 @@
 -- Lemmas: where a notice stands, and what lifting it replies and leaves.
-use Rattle.std.proofs.Common.{◌≡◌, ℕ, ◌+◌, Bool, true, false, cond, not, ltb, List, [], ◌∷◌, length, Some, None, Option, refl, ap, ◌∙◌, add-one, arith, add_comm}
-use Rattle.std.specs.List.{remove, list_any, position, position_or_len}
+use Rattle.std.proofs.Common.{◌≡◌, ℕ, ◌+◌, Bool, true, false, cond, not, ltb, List, [], ◌∷◌, length, Some, None, Option, sym, refl, ap, subst, ◌∙◌, add-one, arith, add_comm}
+use Rattle.std.specs.List.{remove, position, position_or_len}
 use Rattle.std.proofs.lemmas.Bool.{cases_Bool}
 use Rattle.layers.specs.Notices.{same_notice, is_up, taken_down, lift_refusal, after_lift}
 use Rattle.layers.specs.declared.notices.Notice.{Notice}
@@ -30,5 +30,5 @@ module _ (n : Notice) where
   tells_by ns false up = (grind (arith, up), grind (arith, up))
   tells_by ns true up = (grind (arith, up), rest ns ∙ grind (arith, up))
 
-  pub tells : (ns : List Notice) → Tells ns (position same ns)
-  tells ns = tells_by ns (ltb (position_or_len same ns) (length ns)) (up_at ns)
+  pub tells : (ns : List Notice) (o : Option ℕ) → o ≡ position same ns → Tells ns o
+  tells ns o at = subst (Tells ns) (sym at) (tells_by ns (ltb (position_or_len same ns) (length ns)) (up_at ns))

@@ -1,5 +1,5 @@
 -- Lemmas: a gate that is always shut has no answer.
-use Rattle.std.proofs.Common.{◌≡◌, ℕ, None, Option, sym, refl}
+use Rattle.std.proofs.Common.{◌≡◌, ℕ, None, sym, refl}
 use Rattle.books.specs.Meaning.{first_open, last_open}
 use Rattle.books.specs.Scans.{first_is, last_is}
 use Rattle.layers.specs.TwoBooks.{shut}

@@ -1,11 +1,11 @@
 -- Lemmas: stepping over the notices in the way keeps the answer, in at most one step for each notice.
-use Rattle.std.proofs.Common.{◌≡◌, ℕ, ◌+◌, ◌<◌, ◌≤◌, Bool, true, false, cond, leb, List, [], ◌∷◌, length, Some, None, Option, sym, refl, ap, ◌∙◌, subst, ⊎_elim, arith}
+use Rattle.std.proofs.Common.{◌≡◌, ℕ, ◌+◌, ◌<◌, ◌≤◌, Bool, true, false, cond, leb, List, [], ◌∷◌, Some, None, Option, sym, refl, ap, ◌∙◌, subst, ⊎_elim, arith}
 use Rattle.std.specs.List.{count_by}
-use Rattle.std.proofs.lemmas.List.Sums.{sum_by-cons, count_by-le-length}
-use Rattle.std.proofs.lemmas.Bool.{cases_Bool, cases_lt, cond-false, leb-true, le-leb, lt-leb, and_from, and_left, and_right}
+use Rattle.std.proofs.lemmas.List.Sums.{sum_by-cons}
+use Rattle.std.proofs.lemmas.Bool.{cases_Bool, cases_lt, cond-false, leb-true, le-leb, lt-leb, and_left, and_right}
 use Rattle.std.proofs.lemmas.Bool.Decides.{nat_tests}
 use Rattle.books.specs.Meaning.{Exits, Lawful, first_open, last_open, LeastOpen, GreatestOut}
-use Rattle.books.specs.Options.{option_cases, none_not_some, some_one}
+use Rattle.books.specs.Options.{option_cases, none_not_some}
 use Rattle.books.specs.Scans.{InTime, lawful_in_time, first_is, first_found, last_is, last_found}
 use Rattle.layers.specs.Notices.{clears, all_clear, let_by, hindering, noticed_exits}
 use Rattle.layers.specs.NoticeLaws.{let_by_only, noticed_lawful}
@@ -98,67 +98,69 @@ module _ (ns : List Notice) (gates : ℕ) (exits : Exits) (law : Lawful gates ex
   above_clear s e h c = ap (let_by ns g s) h ∙ rw (unhindered ns g s e (sym c)) refl
 
   -- ---- forwards
-  pub first_nothing : (z : ℕ) → None ≡ first_open x z → None ≡ first_open above z
-  first_nothing z asked =
-      let none : LeastOpen x z None = subst (LeastOpen x z) (sym asked) (first_found x timely z) in
-      first_is above above_timely z None (λ k lo. above_none k (none k lo))
+  module _ (t z k : ℕ) (kept : Kept (first_open above) ended ns t z k) where
+    pub first_nothing : None ≡ first_open x z → None ≡ first_open above t
+    first_nothing asked =
+        let none : LeastOpen x z None = subst (LeastOpen x z) (sym asked) (first_found x timely z) in
+        first_is above above_timely z None (λ j lo. above_none j (none j lo)) ∙ kept.same
 
-  module _ (z : ℕ) (p : ℕ × ℕ) (asked : Some p ≡ first_open x z) where
-    found : LeastOpen x z (Some p)
-    found = subst (LeastOpen x z) (sym asked) (first_found x timely z)
+    module _ (p : ℕ × ℕ) (asked : Some p ≡ first_open x z) where
+      found : LeastOpen x z (Some p)
+      found = subst (LeastOpen x z) (sym asked) (first_found x timely z)
 
-    pub first_clear : None ≡ hindering ns g p.0 p.1 → Some p ≡ first_open above z
-    first_clear c = first_is above above_timely z (Some p) (found.0, above_clear p.0 p.1 found.1 c, λ k lo hi. above_none k (found.2 k lo hi))
+      pub first_clear : None ≡ hindering ns g p.0 p.1 → Some p ≡ first_open above t
+      first_clear c = first_is above above_timely z (Some p) (found.0, above_clear p.0 p.1 found.1 c, λ j lo hi. above_none j (found.2 j lo hi)) ∙ kept.same
 
-    -- up to the end of a notice in the way nothing is open above
-    jumped : (n : Notice) → Hinders ns g p.0 p.1 n → (k : ℕ) → z ≤ k → k < n.end → above k ≡ None
-    jumped n hind k lo hi =
-        ⊎_elim
-        (λ lt. above_none k (found.2 k lo lt))
-        (λ ge. ⊎_elim (above_none k)
-        (λ some. let later = law.order g p.0 k p.1 some.0 found.1 some.1 ge in
-        let test : clears g k some.0 n ≡ false = let h = hind.meets in grind (arith, nat_tests) in
-        above_hindered k some.0 some.1 (hind.stops k some.0 test))
-        (option_cases (x k)))
-        (cases_lt k p.0)
+      -- up to the end of a notice in the way nothing is open above
+      jumped : (n : Notice) → Hinders ns g p.0 p.1 n → (j : ℕ) → z ≤ j → j < n.end → above j ≡ None
+      jumped n hind j lo hi =
+          ⊎_elim
+          (λ lt. above_none j (found.2 j lo lt))
+          (λ ge. ⊎_elim (above_none j)
+          (λ some. let later = law.order g p.0 j p.1 some.0 found.1 some.1 ge in
+          let test : clears g j some.0 n ≡ false = let h = hind.meets in grind (arith, nat_tests) in
+          above_hindered j some.0 some.1 (hind.stops j some.0 test))
+          (option_cases (x j)))
+          (cases_lt j p.0)
 
-    pub first_step : (t k : ℕ) → Kept (first_open above) ended ns t z k → (n : Notice) → Some n ≡ hindering ns g p.0 p.1 → Kept (first_open above) ended ns t n.end (k + 1)
-    first_step t k kept n q =
-        let hind = hindered ns g p.0 p.1 n (sym q) in
-        let past : p.0 < n.end = let c = hind.meets in grind (arith, nat_tests) in
-        let lo = found.0 in
-        let more = hind.counts (ended z) (ended n.end) (λ m y. le-leb m.end n.end (omega (arith, leb-true m.end z y))) (lt-leb n.end z (omega arith)) (le-leb n.end n.end (omega arith)) in
-        let same = first_is above above_timely z (first_open above n.end) (least_sooner above z n.end (omega arith) (jumped n hind) (first_open above n.end) (first_found above above_timely n.end)) in
-        record { same = same ∙ kept.same; steps = omega (arith, kept.steps) }
+      pub first_step : (n : Notice) → Some n ≡ hindering ns g p.0 p.1 → Kept (first_open above) ended ns t n.end (k + 1)
+      first_step n q =
+          let hind = hindered ns g p.0 p.1 n (sym q) in
+          let past : p.0 < n.end = let c = hind.meets in grind (arith, nat_tests) in
+          let lo = found.0 in
+          let more = hind.counts (ended z) (ended n.end) (λ m y. le-leb m.end n.end (omega (arith, leb-true m.end z y))) (lt-leb n.end z (omega arith)) (le-leb n.end n.end (omega arith)) in
+          let same = first_is above above_timely z (first_open above n.end) (least_sooner above z n.end (omega arith) (jumped n hind) (first_open above n.end) (first_found above above_timely n.end)) in
+          record { same = same ∙ kept.same; steps = omega (arith, kept.steps) }
 
   -- ---- backwards
-  pub last_nothing : (z : ℕ) → None ≡ last_open x z → None ≡ last_open above z
-  last_nothing z asked =
-      let none : GreatestOut x z None = subst (GreatestOut x z) (sym asked) (last_found x timely z) in
-      last_is above above_timely z None (λ k d so. none k d (below k d so))
+  module _ (t z k : ℕ) (kept : Kept (last_open above) to_begin ns t z k) where
+    pub last_nothing : None ≡ last_open x z → None ≡ last_open above t
+    last_nothing asked =
+        let none : GreatestOut x z None = subst (GreatestOut x z) (sym asked) (last_found x timely z) in
+        last_is above above_timely z None (λ j d so. none j d (below j d so)) ∙ kept.same
 
-  module _ (z : ℕ) (p : ℕ × ℕ) (asked : Some p ≡ last_open x z) where
-    latest : GreatestOut x z (Some p)
-    latest = subst (GreatestOut x z) (sym asked) (last_found x timely z)
+    module _ (p : ℕ × ℕ) (asked : Some p ≡ last_open x z) where
+      latest : GreatestOut x z (Some p)
+      latest = subst (GreatestOut x z) (sym asked) (last_found x timely z)
 
-    pub last_clear : None ≡ hindering ns g p.0 p.1 → Some p ≡ last_open above z
-    last_clear c = last_is above above_timely z (Some p) (latest.0, above_clear p.0 p.1 latest.1 c, λ k d lo so. latest.2 k d lo (below k d so))
+      pub last_clear : None ≡ hindering ns g p.0 p.1 → Some p ≡ last_open above t
+      last_clear c = last_is above above_timely z (Some p) (latest.0, above_clear p.0 p.1 latest.1 c, λ j d lo so. latest.2 j d lo (below j d so)) ∙ kept.same
 
-    -- what comes out after the begin of a notice in the way comes out after z
-    jumped_back : (n : Notice) → Hinders ns g p.0 p.1 n → (k d : ℕ) → above k ≡ Some d → n.begin < d → z < d
-    jumped_back n hind k d so hi =
-        ⊎_elim
-        (λ lt. latest.2 k d lt (below k d so))
-        (λ ge. let sooner = law.order g k p.0 d p.1 (below k d so) latest.1 ge in
-        let test : clears g k d n ≡ false = let h = hind.meets in grind (arith, nat_tests) in
-        none_not_some (above k) d (above_hindered k d (below k d so) (hind.stops k d test)) so)
-        (cases_lt p.0 k)
+      -- what comes out after the begin of a notice in the way comes out after z
+      jumped_back : (n : Notice) → Hinders ns g p.0 p.1 n → (j d : ℕ) → above j ≡ Some d → n.begin < d → z < d
+      jumped_back n hind j d so hi =
+          ⊎_elim
+          (λ lt. latest.2 j d lt (below j d so))
+          (λ ge. let sooner = law.order g j p.0 d p.1 (below j d so) latest.1 ge in
+          let test : clears g j d n ≡ false = let h = hind.meets in grind (arith, nat_tests) in
+          none_not_some (above j) d (above_hindered j d (below j d so) (hind.stops j d test)) so)
+          (cases_lt p.0 j)
 
-    pub last_step : (t k : ℕ) → Kept (last_open above) to_begin ns t z k → (n : Notice) → Some n ≡ hindering ns g p.0 p.1 → Kept (last_open above) to_begin ns t n.begin (k + 1)
-    last_step t k kept n q =
-        let hind = hindered ns g p.0 p.1 n (sym q) in
-        let past : n.begin < p.1 = let c = hind.meets in grind (arith, nat_tests) in
-        let hi = latest.0 in
-        let more = hind.counts (to_begin z) (to_begin n.begin) (λ m y. le-leb n.begin m.begin (omega (arith, leb-true z m.begin y))) (lt-leb z n.begin (omega arith)) (le-leb n.begin n.begin (omega arith)) in
-        let same = last_is above above_timely z (last_open above n.begin) (greatest_later above z n.begin (omega arith) (jumped_back n hind) (last_open above n.begin) (last_found above above_timely n.begin)) in
-        record { same = same ∙ kept.same; steps = omega (arith, kept.steps) }
+      pub last_step : (n : Notice) → Some n ≡ hindering ns g p.0 p.1 → Kept (last_open above) to_begin ns t n.begin (k + 1)
+      last_step n q =
+          let hind = hindered ns g p.0 p.1 n (sym q) in
+          let past : n.begin < p.1 = let c = hind.meets in grind (arith, nat_tests) in
+          let hi = latest.0 in
+          let more = hind.counts (to_begin z) (to_begin n.begin) (λ m y. le-leb n.begin m.begin (omega (arith, leb-true z m.begin y))) (lt-leb z n.begin (omega arith)) (le-leb n.begin n.begin (omega arith)) in
+          let same = last_is above above_timely z (last_open above n.begin) (greatest_later above z n.begin (omega arith) (jumped_back n hind) (last_open above n.begin) (last_found above above_timely n.begin)) in
+          record { same = same ∙ kept.same; steps = omega (arith, kept.steps) }

@@ -1,6 +1,6 @@
 -- Lemmas: two books side by side keep the laws, and mean what the rule says.
 -- Nothing here is a definition that a contract cites.
-use Rattle.std.specs.Prelude.{◌≡◌, ℕ, ◌+◌, ◌-◌, ◌<◌, ◌≤◌, min, Some, None, Option, refl}
+use Rattle.std.specs.Prelude.{◌≡◌, ℕ, ◌+◌, ◌-◌, ◌<◌, ◌≤◌, min, refl}
 use Rattle.std.proofs.Common.{arith}
 use Rattle.books.specs.Meaning.{Exits, Lawful, Means}
 use Rattle.layers.specs.TwoBooks.{two_gates, shut, two_exits, TwoPassage}

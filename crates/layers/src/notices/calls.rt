@@ -19,6 +19,7 @@ impl<B: Book + Drop> Noticed<B> {
     }
 }
 
+// Each call tells the meaning that it leaves: as a field it would ask `B: Book` of every `Noticed<B>`.
 impl<B: Book> Noticed<B> {
     // The tests of a post, in their order.
     fn may_post(&self, notice: Notice) -> Result<(), Refusal>

@@ -1,4 +1,4 @@
-use Rattle.std.proofs.Common.{◌≡◌, Some, None, rules, tests, refl, subst, sym, ◌∙◌, arith}
+use Rattle.std.proofs.Common.{◌≡◌, Some, None, rules, tests, refl, sym, ◌∙◌, arith}
 use Rattle.std.specs.List.{position}
 use Rattle.std.proofs.lemmas.Iterator.{YieldsList-from_slice}
 use Rattle.std.proofs.lemmas.Iterator.Search.{position_from_yields_List}
@@ -11,7 +11,7 @@ returns-in_err-ok_or g c =
     let ns = c.args.self.now.notices.items in
     let n = c.args.notice in
     let at : c.position-place.result ≡ position (same n) ns = position_from_yields_List (same n) _ _ c.position-place.result c.position-place.ensures.ran (YieldsList-from_slice ns cc) (λ x b q k. search (rules, tests)) in
-    let told : Tells n ns None = subst (Tells n ns) (sym at ∙ c.in_err-ok_or.ensures.ok_part) (tells n ns) in
+    let told : Tells n ns None = tells n ns None (sym c.in_err-ok_or.ensures.ok_part ∙ at) in
     record { reply = grind (arith, told.0); notices = told.1; book = refl; meaning = noticed_means _ _ _ }
 
 pub returns : goal.returns
@@ -19,5 +19,5 @@ returns g c =
     let ns = c.args.self.now.notices.items in
     let n = c.args.notice in
     let at : c.position-place.result ≡ position (same n) ns = position_from_yields_List (same n) _ _ c.position-place.result c.position-place.ensures.ran (YieldsList-from_slice ns cc) (λ x b q k. search (rules, tests)) in
-    let told : Tells n ns (Some c.in_ok-ok_or.field-0) = subst (Tells n ns) (sym at ∙ c.in_ok-ok_or.ensures.ok_part) (tells n ns) in
+    let told : Tells n ns (Some c.in_ok-ok_or.field-0) = tells n ns (Some c.in_ok-ok_or.field-0) (sym c.in_ok-ok_or.ensures.ok_part ∙ at) in
     record { reply = told.0; notices = c.remove.ensures.items ∙ told.1; book = refl; meaning = noticed_means _ _ _ }
