@@ -21,7 +21,7 @@ some_one o a b p q = cc
 module _ {L : Type 0} {good : L → L → Bool} {goes : ℕ → L → Option L} (laws : Laws good goes) (anti : Antisymmetric good) where
   -- a label that is not bettered by z is at least as good
   unbettered : (o : Option L) (z : L) → bettering good o (Some z) ≡ false → Good good o z
-  unbettered None z h = let w : ◌≡◌ {A = ℕ} 0 1 = cc in absurd (omega arith)
+  unbettered None z h = absurd (both_ways true h refl)
   unbettered (Some y) z h = (y, refl, not-false (good y z) h)
 
   good_unbettered : (o : Option L) (z : L) → Good good o z → bettering good o (Some z) ≡ false

@@ -17,7 +17,8 @@ pub struct Search<'a, R> {
     pub reaches: &'a [Reach],
 }
 
-// Fills row 0 alone: a label at one place, and none elsewhere. It says whether there are enough cells.
+// Fills row 0 alone: a label at one place, and none elsewhere. It says whether there are enough cells: a plain test, which a
+// caller that has counted them needn't read.
 pub fn first_row<L: Copy>(cells: &mut [Option<L>], start: Place, label: L) -> bool
     ensures { FirstRow start label cells.old cells.new result }
 {
@@ -43,6 +44,7 @@ impl<R: Reckoning> Search<'_, R> {
         if !first_row(cells, start, label) {
             return None;
         }
+        // a labelled `for` has no value, so the number of its round is kept beside it
         let mut last = 0;
         'rounds: for k in 1..64 {
             last = k;
@@ -54,7 +56,7 @@ impl<R: Reckoning> Search<'_, R> {
     }
 
     // Fills one row more, by a round over the reaches from the row before it, and says whether the round betters a place. Where
-    // the cells don't hold the row, it does nothing.
+    // the cells don't hold the row, it does nothing, and says no: either way a search ends there.
     pub fn next_row(self, cells: &mut [Option<R::Label>], row: usize) -> bool
         ensures { NextRow (R.good self.entry.by.now) (R.goes self.entry.by.now) (all_turned self.entry.direction self.entry.reaches.now) row cells.old cells.new result }
     {
