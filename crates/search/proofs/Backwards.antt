@@ -1,16 +1,15 @@
 -- Lemmas: the way back from the least row with a label is a walk with that label.
-use Rattle.std.proofs.Common.{◌≡◌, ℕ, zero, suc, ◌+◌, ◌-◌, ◌<◌, ◌≤◌, Bool, true, false, cond, not, ◌&&◌, eqb, ltb, leb, List, [], ◌∷◌, length, get_or, drop, Some, None, Option, sym, refl, ap, ◌∙◌, subst, ⊎_elim, add-one, arith}
+use Rattle.std.proofs.Common.{◌≡◌, ℕ, zero, suc, ◌-◌, ◌<◌, ◌≤◌, Bool, true, false, not, ◌&&◌, eqb, ltb, leb, List, [], ◌∷◌, length, get_or, Some, None, Option, sym, refl, ap, ◌∙◌, subst, ⊎_elim, arith}
 use Rattle.std.specs.List.{slice_get, position_or_len, position, ContainsAt as Has}
 use Rattle.std.proofs.lemmas.List.{get_or_default}
 use Rattle.std.proofs.lemmas.List.Sums.{fails_before_first, passes_at_first}
 use Rattle.std.proofs.lemmas.Option.{slice_get-get_or}
 use Rattle.std.proofs.lemmas.Bool.{cases_lt, both_ways, cond-true, eqb-true, eq-eqb, lt-ltb, le-leb, and_parts, and_from, not-true, not-false, not_from_false}
 use Rattle.search.specs.Laws.{Laws, Antisymmetric}
-use Rattle.search.specs.Reaches.{in_chart, turned, all_turned}
+use Rattle.search.specs.Reaches.{in_chart}
 use Rattle.search.specs.Rows.{onward, bettering, gathered, lone, best}
 use Rattle.search.specs.Walks.{Inside, Leads, led, Good}
 use Rattle.search.specs.WayBack.{brings, row_of, came_by, readable, step_back, reach_of, put_before, reach_and, way_back, WaysBackAreWalks}
-use Rattle.search.specs.declared.reaches.Direction.{Direction}
 use Rattle.search.specs.declared.reaches.Reach.{Reach}
 use Rattle.search.proofs.CellSteps.{inside}
 use Rattle.search.proofs.Walked.{Brought, charted, itself, gathered_by, gathered_from, onward_some, onward_good, best_gone}

@@ -1,5 +1,5 @@
 -- Lemmas: a reach whose start has kept its label betters nothing, so it can be left out of a round.
-use Rattle.std.proofs.Common.{◌≡◌, ℕ, zero, suc, ◌+◌, ◌-◌, ◌*◌, ◌<◌, ◌≤◌, Bool, true, false, ◌&&◌, ◌||◌, eqb, ltb, List, [], ◌∷◌, length, get_or, drop, set, Some, None, Option, sym, refl, ap, ◌∙◌, subst, inl, ⊎_elim, arith}
+use Rattle.std.proofs.Common.{◌≡◌, ℕ, zero, suc, ◌+◌, ◌-◌, ◌*◌, ◌<◌, ◌≤◌, Bool, true, false, ◌&&◌, ◌||◌, eqb, ltb, List, [], ◌∷◌, length, get_or, drop, set, Some, None, Option, sym, refl, ap, ◌∙◌, subst, ⊎_elim, arith}
 use Rattle.std.proofs.Math.Bool.{or-false}
 use Rattle.std.proofs.lemmas.List.{at_drop_more}
 use Rattle.std.proofs.lemmas.Bool.{cases_Bool, both_ways, cond-true, cond-false, cond_both, lt-ltb, ltb-false, and_cases, and_left, and_right, or_parts, not-true, not_from_false, not_from_true}
@@ -10,7 +10,7 @@ use Rattle.search.specs.Rows.{onward, bettering, better, come, tells, relaxed, r
 use Rattle.search.specs.Walks.{Inside, Good}
 use Rattle.search.specs.declared.reaches.Direction.{Direction}
 use Rattle.search.specs.declared.reaches.Reach.{Reach}
-use Rattle.search.proofs.CellSteps.{inside, step, relaxed_outside, relaxed_at, gathered_same}
+use Rattle.search.proofs.CellSteps.{inside, step, relaxed_at, gathered_same}
 use Rattle.search.proofs.Walked.{itself, good_old, gathered_here, gathered_by}
 
 module _ {L : Type 0} {good : L → L → Bool} {goes : ℕ → L → Option L} (laws : Laws good goes) where

@@ -17,11 +17,11 @@ pub struct Search<'a, R> {
     pub reaches: &'a [Reach],
 }
 
-// Fills row 0 alone: a label at one place, and none elsewhere. It says whether there are enough cells: a plain test, which a
-// caller that has counted them needn't read.
+// Fills row 0 alone: a label at one place, and none elsewhere. It says whether there are enough cells.
 pub fn first_row<L: Copy>(cells: &mut [Option<L>], start: Place, label: L) -> bool
     ensures { FirstRow start label cells.old cells.new result }
 {
+    // a plain test with nothing to hand over, so a `Result` would say no more
     if cells.len() < CELLS {
         return false;
     }
@@ -34,8 +34,7 @@ pub fn first_row<L: Copy>(cells: &mut [Option<L>], start: Place, label: L) -> bo
 
 impl<R: Reckoning> Search<'_, R> {
     // The best labels from a start place with a label, by rising number of reaches: row k of the cells has them for at
-    // most k reaches. It says which row is the last, the first whose round betters no place, or nothing where there are too
-    // few cells.
+    // most k reaches. It says which row is the last, or nothing where there are too few cells.
     pub fn run(self, start: Place, label: R::Label, cells: &mut [Option<R::Label>]) -> Option<usize>
         ensures last { result ≡ last_row (R.good self.entry.by.now) (R.goes self.entry.by.now) (all_turned self.entry.direction self.entry.reaches.now) start label cells.old }
         ensures filled { Filled (R.good self.entry.by.now) (R.goes self.entry.by.now) (all_turned self.entry.direction self.entry.reaches.now) start label cells.old cells.new result }
