@@ -1,10 +1,11 @@
 -- Lemmas: the way back from the least row with a label is a walk with that label.
-use Rattle.std.proofs.Common.{◌≡◌, ℕ, zero, suc, ◌-◌, ◌<◌, ◌≤◌, Bool, true, false, not, ◌&&◌, eqb, ltb, leb, List, [], ◌∷◌, length, get_or, Some, None, Option, sym, refl, ap, ◌∙◌, subst, ⊎_elim, arith}
+use Rattle.std.proofs.Common.{◌≡◌, ℕ, zero, suc, ◌-◌, ◌<◌, ◌≤◌, Bool, true, false, not, ◌&&◌, eqb, ltb, List, [], ◌∷◌, length, get_or, Some, None, Option, sym, refl, ap, ◌∙◌, subst, ⊎_elim, arith}
 use Rattle.std.specs.List.{slice_get, position_or_len, position, ContainsAt as Has}
 use Rattle.std.proofs.lemmas.List.{get_or_default}
 use Rattle.std.proofs.lemmas.List.Sums.{fails_before_first, passes_at_first}
 use Rattle.std.proofs.lemmas.Option.{slice_get-get_or}
-use Rattle.std.proofs.lemmas.Bool.{cases_lt, both_ways, cond-true, eqb-true, eq-eqb, lt-ltb, le-leb, and_parts, and_from, not-true, not-false, not_from_false}
+use Rattle.std.proofs.lemmas.Bool.Decides.{nat_tests}
+use Rattle.std.proofs.lemmas.Bool.{cases_lt, both_ways, cond-true, eqb-true, eq-eqb, lt-ltb, and_parts, and_from, not-true, not-false, not_from_false}
 use Rattle.search.specs.Laws.{Laws, Antisymmetric}
 use Rattle.search.specs.Reaches.{in_chart}
 use Rattle.search.specs.Rows.{onward, bettering, gathered, lone, best}
@@ -124,7 +125,7 @@ module _ {L : Type 0} {good : L → L → Bool} {goes : ℕ → L → Option L} 
         back = omega arith
 
         reads : readable cells (suc k) v ≡ true
-        reads = and_from (ltb 0 (suc k) && ltb (suc k) 64) (ltb v 64 && leb 4096 (length cells)) (and_from (ltb 0 (suc k)) (ltb (suc k) 64) (lt-ltb 0 (suc k) (omega arith)) (lt-ltb (suc k) 64 (omega arith))) (and_from (ltb v 64) (leb 4096 (length cells)) (lt-ltb v 64 vl) (le-leb 4096 (length cells) long))
+        reads = grind (arith, nat_tests)
 
         so : Inside r × (r.to ≡ v) × Good good (onward goes r.gate (row_of cells k r.from)) z
         so = brings_so (row_of cells k) v z r first.5

@@ -68,6 +68,7 @@ impl<R: Reckoning> Search<'_, R> {
         requires held { RowIn cells.old k }
         ensures { RowFilled true (R.good self.entry.by.now) (R.goes self.entry.by.now) (all_turned self.entry.direction self.entry.reaches.now) k cells.old cells.new result }
     {
+        // offsets into one slice, since a round reads two rows before the one that it writes
         cells.copy_within(64 * (k - 1)..64 * k, 64 * k);
         let mut told = false;
         for reach in self.reaches {
