@@ -1,16 +1,16 @@
 -- Lemmas: the way back from the least row with a label is a walk with that label.
-use Rattle.std.proofs.Common.{◌≡◌, ℕ, zero, suc, ◌+◌, ◌-◌, ◌<◌, ◌≤◌, Bool, true, false, cond, not, ◌&&◌, eqb, ltb, leb, List, [], ◌∷◌, length, get_or, drop, Some, None, Option, sym, refl, ap, ◌∙◌, subst, ⊎_elim, add-one, arith}
+use Rattle.std.proofs.Common.{◌≡◌, ℕ, zero, suc, ◌-◌, ◌<◌, ◌≤◌, Bool, true, false, not, ◌&&◌, eqb, ltb, List, [], ◌∷◌, length, get_or, Some, None, Option, sym, refl, ap, ◌∙◌, subst, ⊎_elim, arith}
 use Rattle.std.specs.List.{slice_get, position_or_len, position, ContainsAt as Has}
 use Rattle.std.proofs.lemmas.List.{get_or_default}
 use Rattle.std.proofs.lemmas.List.Sums.{fails_before_first, passes_at_first}
 use Rattle.std.proofs.lemmas.Option.{slice_get-get_or}
-use Rattle.std.proofs.lemmas.Bool.{cases_lt, both_ways, cond-true, eqb-true, eq-eqb, lt-ltb, le-leb, and_parts, and_from, not-true, not-false, not_from_false}
+use Rattle.std.proofs.lemmas.Bool.Decides.{nat_tests}
+use Rattle.std.proofs.lemmas.Bool.{cases_lt, both_ways, cond-true, eqb-true, eq-eqb, lt-ltb, and_parts, and_from, not-true, not-false, not_from_false}
 use Rattle.search.specs.Laws.{Laws, Antisymmetric}
-use Rattle.search.specs.Reaches.{in_chart, turned, all_turned}
+use Rattle.search.specs.Reaches.{in_chart}
 use Rattle.search.specs.Rows.{onward, bettering, gathered, lone, best}
 use Rattle.search.specs.Walks.{Inside, Leads, led, Good}
 use Rattle.search.specs.WayBack.{brings, row_of, came_by, readable, step_back, reach_of, put_before, reach_and, way_back, WaysBackAreWalks}
-use Rattle.search.specs.declared.reaches.Direction.{Direction}
 use Rattle.search.specs.declared.reaches.Reach.{Reach}
 use Rattle.search.proofs.CellSteps.{inside}
 use Rattle.search.proofs.Walked.{Brought, charted, itself, gathered_by, gathered_from, onward_some, onward_good, best_gone}
@@ -21,7 +21,7 @@ some_one o a b p q = cc
 module _ {L : Type 0} {good : L → L → Bool} {goes : ℕ → L → Option L} (laws : Laws good goes) (anti : Antisymmetric good) where
   -- a label that is not bettered by z is at least as good
   unbettered : (o : Option L) (z : L) → bettering good o (Some z) ≡ false → Good good o z
-  unbettered None z h = let w : ◌≡◌ {A = ℕ} 0 1 = cc in absurd (omega arith)
+  unbettered None z h = absurd (both_ways true h refl)
   unbettered (Some y) z h = (y, refl, not-false (good y z) h)
 
   good_unbettered : (o : Option L) (z : L) → Good good o z → bettering good o (Some z) ≡ false
@@ -125,7 +125,7 @@ module _ {L : Type 0} {good : L → L → Bool} {goes : ℕ → L → Option L} 
         back = omega arith
 
         reads : readable cells (suc k) v ≡ true
-        reads = and_from (ltb 0 (suc k) && ltb (suc k) 64) (ltb v 64 && leb 4096 (length cells)) (and_from (ltb 0 (suc k)) (ltb (suc k) 64) (lt-ltb 0 (suc k) (omega arith)) (lt-ltb (suc k) 64 (omega arith))) (and_from (ltb v 64) (leb 4096 (length cells)) (lt-ltb v 64 vl) (le-leb 4096 (length cells) long))
+        reads = grind (arith, nat_tests)
 
         so : Inside r × (r.to ≡ v) × Good good (onward goes r.gate (row_of cells k r.from)) z
         so = brings_so (row_of cells k) v z r first.5

@@ -3,7 +3,6 @@ use Rattle.std.proofs.Common.{◌≡◌, ℕ, ◌+◌, ◌-◌, ◌<◌, ◌≤�
 use Rattle.std.proofs.lemmas.List.{length-replicate, get_or-replicate, get_or_append_left, get_or-append_right, get_or-drop, get_or-set_same, get_or-set_other, length-append}
 use Rattle.std.proofs.lemmas.Bool.{cases_eq, eq-eqb, ne_eqb, cond-true, cond-false}
 use Rattle.search.specs.Filled.{FirstRow}
-use Rattle.search.specs.Rows.{lone}
 
 module _ {L : Type 0} (at : ℕ) (x : L) (old row : List (Option L)) (long : 4096 ≤ length old) (blank : row ≡ replicate (length (take 64 old)) None) where
   width : length row ≡ 64
@@ -24,11 +23,12 @@ module _ {L : Type 0} (at : ℕ) (x : L) (old row : List (Option L)) (long : 409
   begun_nowhere past = (long, (λ v h. empty v h ∙ sym (cond-false (eqb at v) (Some x) None (ne_eqb at v (λ e. omega arith)))), after)
 
   pub begun_at : (i : ℕ) → i ≡ at → at < 64 → FirstRow at x old (set (row ++ drop 64 old) i (Some x)) true
-  begun_at i is low =
-      (long,
-      (λ v h.
-      ⊎_elim
-      (λ same. let e : i ≡ v = is ∙ same in ap (λ (w : ℕ). get_or (set begun i (Some x)) w None) (sym e) ∙ get_or-set_same begun i (Some x) None (omega (arith, width, length-append row (drop 64 old))) ∙ sym (cond-true (eqb at v) (Some x) None (eq-eqb at v same)))
-      (λ apart. get_or-set_other begun i v (Some x) None (λ q. apart (omega arith)) ∙ empty v h ∙ sym (cond-false (eqb at v) (Some x) None (ne_eqb at v apart)))
-      (cases_eq at v)),
-      λ j h. get_or-set_other begun i j (Some x) None (omega arith) ∙ after j h)
+  begun_at i is low = (
+    long,
+    (λ v h.
+        ⊎_elim
+        (λ same. let e : i ≡ v = is ∙ same in ap (λ (w : ℕ). get_or (set begun i (Some x)) w None) (sym e) ∙ get_or-set_same begun i (Some x) None (omega (arith, width, length-append row (drop 64 old))) ∙ sym (cond-true (eqb at v) (Some x) None (eq-eqb at v same)))
+        (λ apart. get_or-set_other begun i v (Some x) None (λ q. apart (omega arith)) ∙ empty v h ∙ sym (cond-false (eqb at v) (Some x) None (ne_eqb at v apart)))
+        (cases_eq at v)),
+    λ j h. get_or-set_other begun i j (Some x) None (omega arith) ∙ after j h,
+  )

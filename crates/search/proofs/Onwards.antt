@@ -1,6 +1,7 @@
 -- Lemmas: the rounds of a search, after each of them and at their end.
-use Rattle.std.proofs.Common.{◌≡◌, ℕ, ◌+◌, ◌-◌, ◌*◌, ◌<◌, ◌≤◌, Bool, true, false, ◌&&◌, leb, ltb, List, length, get_or, Some, None, Option, sym, refl, ap, ◌∙◌, subst, arith}
-use Rattle.std.proofs.lemmas.Bool.{and_from, cond-true, cond-false, lt-ltb, le-ltb, le-leb}
+use Rattle.std.proofs.Common.{◌≡◌, ℕ, ◌+◌, ◌-◌, ◌*◌, ◌<◌, ◌≤◌, Bool, true, false, ltb, List, length, get_or, Some, None, Option, sym, refl, ap, ◌∙◌, subst, arith}
+use Rattle.std.proofs.lemmas.Bool.Decides.{nat_tests}
+use Rattle.std.proofs.lemmas.Bool.{both_ways, cond-true, cond-false, lt-ltb, le-ltb}
 use Rattle.search.specs.Filled.{last_row, Filled, Searched, FirstRow, holds_row, RowFilled, NextRow}
 use Rattle.search.specs.Laws.{Laws}
 use Rattle.search.specs.Rows.{lone, gathered, best, stirs, last_from}
@@ -11,11 +12,11 @@ use Rattle.search.proofs.Skipped.{before_rows}
 
 -- where the cells hold a row, it is filled
 pub held_filled : {L : Type 0} (good : L → L → Bool) (goes : ℕ → L → Option L) (es : List Reach) (k : ℕ) (cells new : List (Option L)) (told : Bool) → 0 < k → k < 64 → 4096 ≤ length cells → RowFilled (holds_row cells k) good goes es k cells new told ≡ RowFilled true good goes es k cells new told
-held_filled good goes es k cells new told some low long = ap (λ (h : Bool). RowFilled h good goes es k cells new told) (and_from (ltb 0 k && ltb k 64) (leb 4096 (length cells)) (and_from (ltb 0 k) (ltb k 64) (lt-ltb 0 k some) (lt-ltb k 64 low)) (le-leb 4096 (length cells) long))
+held_filled good goes es k cells new told some low long = let held : holds_row cells k ≡ true = grind (arith, nat_tests) in ap (λ (h : Bool). RowFilled h good goes es k cells new told) held
 
 -- too few cells are left as they were
 pub too_few : {L : Type 0} (good : L → L → Bool) (goes : ℕ → L → Option L) (es : List Reach) (at : ℕ) (x : L) (old new : List (Option L)) (there : Bool) → FirstRow at x old new there → there ≡ false → (None ≡ last_row good goes es at x old) × (new ≡ old)
-too_few good goes es at x old new true h f = let z : ◌≡◌ {A = ℕ} 0 1 = cc in absurd (omega arith)
+too_few good goes es at x old new true h f = absurd (both_ways true f refl)
 too_few good goes es at x old new false h f = (sym (cond-true (ltb (length old) 4096) None (Some (last_from good goes es (lone at x) 63 0)) (lt-ltb (length old) 4096 h.0)), h.1)
 
 module _ {L : Type 0} (good : L → L → Bool) (goes : ℕ → L → Option L) (es : List Reach) (at : ℕ) (x : L) (old : List (Option L)) where
@@ -34,7 +35,7 @@ module _ {L : Type 0} (good : L → L → Bool) (goes : ℕ → L → Option L) 
 
   pub rounds_begin : (cells : List (Option L)) (there : Bool) → FirstRow at x old cells there → there ≡ true → Rounds 1 0 cells
   rounds_begin cells true h t = (h.0, refl, refl, (λ j v l low. let z : 0 ≡ j = omega arith in let i : 64 * j + v ≡ v = omega arith in ap (λ (n : ℕ). get_or cells n None) i ∙ h.1 v low ∙ ap (λ (n : ℕ). best good goes es (lone at x) n v) z), λ j l. h.2 j (omega arith))
-  rounds_begin cells false h t = let z : ◌≡◌ {A = ℕ} 0 1 = cc in absurd (omega arith)
+  rounds_begin cells false h t = absurd (both_ways false refl t)
 
   module _ (laws : Laws good goes) where
     ended : (last : ℕ) (cells : List (Option L)) → 4096 ≤ length old → last ≡ last_from good goes es (lone at x) 63 0

@@ -64,9 +64,9 @@ stirred good goes p q cells b (e ∷ es) = stirred good goes p q (relaxed good g
 abbrev pub fresh : {L : Type 0} → (L → L → Bool) → List (Option L) → ℕ → ℕ → Bool
 fresh good cells k u = nat_lt u 64 && (nat_lt k 2 || bettering good (slice_index_or cells (64 * (k - 2) + u) None) (slice_index_or cells (64 * (k - 1) + u) None))
 
--- the cells hold row k
-abbrev pub HoldsRow : {L : Type 0} → List (Option L) → ℕ → Type 0
-HoldsRow cells k = 64 * k + 64 ≤ length cells
+-- row k lies in the cells
+abbrev pub RowIn : {L : Type 0} → List (Option L) → ℕ → Type 0
+RowIn cells k = 64 * k + 64 ≤ length cells
 
 -- row k - 1 came from row k - 2 by a round over the reaches, if there is a row k - 2
 abbrev pub RoundBefore : {L : Type 0} → (L → L → Bool) → (ℕ → L → Option L) → List Reach → List (Option L) → ℕ → Type 0

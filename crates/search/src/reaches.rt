@@ -15,7 +15,7 @@ pub type Gate = u16;
 pub const PLACES: Place = 64;
 
 // A reach leads one way between two places, which may be the same, and lies behind one gate.
-#[derive(Clone, Copy)]
+#[derive(Clone, Copy, PartialEq, Eq, Debug)]
 pub struct Reach {
     pub from: Place,
     pub to: Place,
@@ -35,7 +35,7 @@ impl fmt::Display for Reach {
 }
 
 // Whether a search goes along the reaches or against them.
-#[derive(Clone, Copy)]
+#[derive(Clone, Copy, PartialEq, Eq, Debug)]
 pub enum Direction {
     Along,
     Against,
@@ -51,7 +51,7 @@ impl Direction {
             Direction::Against => Reach {
                 from: reach.to,
                 to: reach.from,
-                gate: reach.gate,
+                ..reach
             },
         }
     }

@@ -2,7 +2,7 @@
 ghost use Rattle.std.specs.Prelude.{◌≡◌, ℕ, ◌+◌, ◌-◌, ◌*◌, ◌<◌, true};
 ghost use Rattle.search.specs.Filled.{RowFilled};
 ghost use Rattle.search.specs.Reaches.{turned, all_turned};
-ghost use Rattle.search.specs.Rows.{onward, bettering, tells, relaxed, fresh, HoldsRow};
+ghost use Rattle.search.specs.Rows.{onward, bettering, tells, relaxed, fresh, RowIn};
 
 use crate::reaches::{Gate, PLACES, Place, Reach};
 use crate::reckoning::Reckoning;
@@ -25,7 +25,7 @@ pub(crate) fn betters<R: Reckoning>(by: &R, old: Option<R::Label>, new: Option<R
 // Takes one reach on, from row k - 1 into row k, and says whether it betters its end.
 fn relax<R: Reckoning>(by: &R, cells: &mut [Option<R::Label>], k: usize, e: Reach) -> bool
     requires later { 0 < k }
-    requires held { HoldsRow cells.old k }
+    requires held { RowIn cells.old k }
     ensures cells { cells.new ≡ relaxed (R.good by.now) (R.goes by.now) (64 * (k - 1)) (64 * k) cells.old e }
     ensures told { result ≡ tells (R.good by.now) (R.goes by.now) (64 * (k - 1)) (64 * k) cells.old e }
 {
@@ -45,7 +45,7 @@ fn relax<R: Reckoning>(by: &R, cells: &mut [Option<R::Label>], k: usize, e: Reac
 // Whether the label of a place was bettered in the round before round k; each label of row 0 counts as such.
 fn is_new<R: Reckoning>(by: &R, cells: &[Option<R::Label>], k: usize, place: Place) -> bool
     requires later { 0 < k }
-    requires held { HoldsRow cells.now k }
+    requires held { RowIn cells.now k }
     ensures { result ≡ fresh (R.good by.now) cells.now k place }
 {
     if place >= PLACES {
@@ -65,9 +65,10 @@ impl<R: Reckoning> Search<'_, R> {
     // start has a new label are taken on: the others were, with the same label, in the round before.
     pub(crate) fn round(self, cells: &mut [Option<R::Label>], k: usize) -> bool
         requires later { 0 < k }
-        requires held { HoldsRow cells.old k }
+        requires held { RowIn cells.old k }
         ensures { RowFilled true (R.good self.entry.by.now) (R.goes self.entry.by.now) (all_turned self.entry.direction self.entry.reaches.now) k cells.old cells.new result }
     {
+        // offsets into one slice, since a round reads two rows before the one that it writes
         cells.copy_within(64 * (k - 1)..64 * k, 64 * k);
         let mut told = false;
         for reach in self.reaches {

@@ -21,6 +21,7 @@ pub struct Search<'a, R> {
 pub fn first_row<L: Copy>(cells: &mut [Option<L>], start: Place, label: L) -> bool
     ensures { FirstRow start label cells.old cells.new result }
 {
+    // a plain test with nothing to hand over, so a `Result` would say no more
     if cells.len() < CELLS {
         return false;
     }
@@ -33,8 +34,7 @@ pub fn first_row<L: Copy>(cells: &mut [Option<L>], start: Place, label: L) -> bo
 
 impl<R: Reckoning> Search<'_, R> {
     // The best labels from a start place with a label, by rising number of reaches: row k of the cells has them for at
-    // most k reaches. It says which row is the last, the first whose round betters no place, or nothing where there are too
-    // few cells.
+    // most k reaches. It says which row is the last, or nothing where there are too few cells.
     pub fn run(self, start: Place, label: R::Label, cells: &mut [Option<R::Label>]) -> Option<usize>
         ensures last { result ≡ last_row (R.good self.entry.by.now) (R.goes self.entry.by.now) (all_turned self.entry.direction self.entry.reaches.now) start label cells.old }
         ensures filled { Filled (R.good self.entry.by.now) (R.goes self.entry.by.now) (all_turned self.entry.direction self.entry.reaches.now) start label cells.old cells.new result }
@@ -43,6 +43,7 @@ impl<R: Reckoning> Search<'_, R> {
         if !first_row(cells, start, label) {
             return None;
         }
+        // a labelled `for` has no value, so the number of its round is kept beside it
         let mut last = 0;
         'rounds: for k in 1..64 {
             last = k;
@@ -54,7 +55,7 @@ impl<R: Reckoning> Search<'_, R> {
     }
 
     // Fills one row more, by a round over the reaches from the row before it, and says whether the round betters a place. Where
-    // the cells don't hold the row, it does nothing.
+    // the cells don't hold the row, it does nothing, and says no: either way a search ends there.
     pub fn next_row(self, cells: &mut [Option<R::Label>], row: usize) -> bool
         ensures { NextRow (R.good self.entry.by.now) (R.goes self.entry.by.now) (all_turned self.entry.direction self.entry.reaches.now) row cells.old cells.new result }
     {

@@ -1,7 +1,7 @@
 // Reading a way back through the rows of a search.
 ghost use Rattle.std.specs.Prelude.{◌≡◌, position};
 ghost use Rattle.search.specs.Reaches.{all_turned};
-ghost use Rattle.search.specs.Rows.{HoldsRow};
+ghost use Rattle.search.specs.Rows.{RowIn};
 ghost use Rattle.search.specs.WayBack.{brings, row_of, step_back, WaysBackAreWalks};
 
 use crate::reaches::{PLACES, Place, Reach};
@@ -18,7 +18,7 @@ fn brings_to<R: Reckoning>(
     z: R::Label,
     e: Reach,
 ) -> bool
-    requires { HoldsRow cells.now k }
+    requires { RowIn cells.now k }
     ensures { result ≡ brings (R.good by.now) (R.goes by.now) (row_of cells.now k) place z e }
 {
     if e.from >= PLACES || e.to >= PLACES || e.to != place {
@@ -37,7 +37,7 @@ impl<R: Reckoning> Search<'_, R> {
         place: Place,
         z: R::Label,
     ) -> Option<usize>
-        requires { HoldsRow cells.now k }
+        requires { RowIn cells.now k }
         ensures { result ≡ position (brings (R.good self.entry.by.now) (R.goes self.entry.by.now) (row_of cells.now k) place z) (all_turned self.entry.direction self.entry.reaches.now) }
     {
         self.reaches
