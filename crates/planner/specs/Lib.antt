@@ -1,10 +1,10 @@
 pub mod Refusals
 pub mod Reckonings
-pub mod Headings
 pub mod Journeys
 pub mod Routes
 pub mod Charts
 pub mod Figures
+pub mod Headings
 pub mod Ways
 pub mod Departures
 pub mod Outcomes
