@@ -97,7 +97,7 @@ pub(crate) struct Course<'a, H> {
 
 impl<'a, H: Heading> Course<'a, H> {
     // Fills the cells from the place where the search of a trip starts, and says which row is the last.
-    fn fill(&self, trip: Trip, cells: &mut [Option<Instant>]) -> usize
+    pub(crate) fn fill(&self, trip: Trip, cells: &mut [Option<Instant>]) -> usize
         requires { 4096 ≤ length cells.old }
         ensures { FilledBy H.heads self.now.reaches.now (H.exits self.now.by.now) trip.from trip.to trip.instant cells.new result }
     {
