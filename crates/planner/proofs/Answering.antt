@@ -15,7 +15,7 @@ use Rattle.planner.specs.Headings.{good_of, goes_of, start_of, end_of, FitsBy, r
 use Rattle.planner.specs.Journeys.{Journey, NoSuchJourney}
 use Rattle.planner.specs.Outcomes.{Found, LookedFor}
 use Rattle.planner.specs.Routes.{departs, arrives, figures}
-use Rattle.planner.specs.Ways.{wanted_of, LeastRow, FilledBy, Reached, ReadBack, in_order, AtFirst, AtLast, Written}
+use Rattle.planner.specs.Ways.{wanted_of, LeastRow, FilledBy, ReachedBy, ReadBack, in_order, AtFirst, AtLast, Written}
 use Rattle.planner.specs.declared.legs.Answer.{Answer}
 use Rattle.planner.specs.declared.legs.Leg.{Leg}
 use Rattle.planner.specs.declared.ways.Aim.{Aim}
@@ -136,19 +136,19 @@ module _ (gates : ℕ) (ex : Exits) (law : Lawful gates ex) (rs : List Reach) (c
 
     pub asked_none : Row None → (legs : List Leg) (r : Option Answer) → r ≡ None → Asked legs legs r
     asked_none h legs r is =
-        let none = chosen_none (laws_of gates ex law d) (antisymmetric_of d) (all_turned d rs) cells (start_of d a b) t last filled.low filled.rows filled.unbeaten (end_of d a b) there aim (at_end None h) in
-        let no = no_walk (laws_of gates ex law d) (antisymmetric_of d) (all_turned d rs) cells (start_of d a b) t last filled.low filled.rows filled.unbeaten (end_of d a b) there none.0 in
+        let none = chosen_none (laws_of gates ex law d) (antisymmetric_of d) (all_turned d rs) cells (start_of d a b) t last filled.low filled.long filled.rows filled.unbeaten (end_of d a b) there aim (at_end None h) in
+        let no = no_walk (laws_of gates ex law d) (antisymmetric_of d) (all_turned d rs) cells (start_of d a b) t last filled.low filled.long filled.rows filled.unbeaten (end_of d a b) there none.0 in
         subst (Asked legs legs) (sym is) ((no_journey d a b t no, refl), none.1)
 
     module _ (k : ℕ) (row : Row (Some k)) where
-      pub read : Chosen (laws_of gates ex law d) (antisymmetric_of d) (all_turned d rs) cells (start_of d a b) t last filled.low filled.rows filled.unbeaten (end_of d a b) there aim k
-      read = chosen_row (laws_of gates ex law d) (antisymmetric_of d) (all_turned d rs) cells (start_of d a b) t last filled.low filled.rows filled.unbeaten (end_of d a b) there aim k (at_end (Some k) row)
+      pub read : Chosen (laws_of gates ex law d) (antisymmetric_of d) (all_turned d rs) cells (start_of d a b) t last filled.low filled.long filled.rows filled.unbeaten (end_of d a b) there aim k
+      read = chosen_row (laws_of gates ex law d) (antisymmetric_of d) (all_turned d rs) cells (start_of d a b) t last filled.low filled.long filled.rows filled.unbeaten (end_of d a b) there aim k (at_end (Some k) row)
 
       low : k ≤ 63
       low = omega (arith, row.0, filled.low)
 
-      pub asked_reached : (n : ℕ) → n ≡ k → Reached (good_of d) (goes_of d ex) (all_turned d rs) cells (start_of d a b) t n v read.label
-      asked_reached n is = subst (λ (m : ℕ). Reached (good_of d) (goes_of d ex) (all_turned d rs) cells (start_of d a b) t m v read.label) (sym is) (subst (λ (w : ℕ). Reached (good_of d) (goes_of d ex) (all_turned d rs) cells (start_of d a b) t k w read.label) (sym end) read.reached)
+      pub asked_reached : (n : ℕ) → n ≡ k → ReachedBy d rs ex cells (start_of d a b) t n v read.label
+      asked_reached n is = subst (λ (m : ℕ). ReachedBy d rs ex cells (start_of d a b) t m v read.label) (sym is) (subst (λ (w : ℕ). ReachedBy d rs ex cells (start_of d a b) t k w read.label) (sym end) read.reached)
 
       pub asked_some : (old head : List Leg) → length head ≡ k → ReadBack d rs ex (start_of d a b) t (in_order d head) v read.label → (ans : Answer) → ans ≡ figures t head → Asked old (head ++ drop k old) (Some ans)
       asked_some old head long back ans is =

@@ -35,7 +35,7 @@ abbrev pub Worth : (ℕ → ℕ → Bool) → Aim → ℕ → ℕ → ℕ → �
 Worth good Time z k y m = (good z y ≡ true) × (good y z ≡ true → k ≤ m)
 Worth good Reaches z k y m = (k ≤ m) × (k ≡ m → good z y ≡ true)
 
-module _ {good : ℕ → ℕ → Bool} {goes : ℕ → ℕ → Option ℕ} (laws : Laws good goes) (anti : Antisymmetric good) (es : List Reach) (cells : List (Option ℕ)) (at x last : ℕ) (low : last ≤ 63)
+module _ {good : ℕ → ℕ → Bool} {goes : ℕ → ℕ → Option ℕ} (laws : Laws good goes) (anti : Antisymmetric good) (es : List Reach) (cells : List (Option ℕ)) (at x last : ℕ) (low : last ≤ 63) (long : 4096 ≤ length cells)
     (rows : (k v : ℕ) → k ≤ last → v < 64 → row_of cells k v ≡ best good goes es (lone at x) k v) (un : Unbeaten good goes es at x cells last) (v : ℕ) (inside : v < 64) where
   abbrev f : ℕ → Option ℕ
   f k = best good goes es (lone at x) k v
@@ -65,7 +65,7 @@ module _ {good : ℕ → ℕ → Bool} {goes : ℕ → ℕ → Option ℕ} (laws
   met wanted (Some y) h = (y, refl)
 
   reached : (k z : ℕ) → k ≤ last → row_of cells k v ≡ Some z → ((i : ℕ) → i < k → Good good (row_of cells i v) z → ⊥) → Reached good goes es cells at x k v z
-  reached k z le stands least = record { last = last; low = low; rows = rows; within = le; place = inside; stands = stands; least = least }
+  reached k z le stands least = record { last = last; low = low; long = long; rows = rows; within = le; place = inside; stands = stands; least = least }
 
   -- the least row with the label of the last row
   best_row : (k : ℕ) → LeastRow cells last v (row_of cells last v) (Some k) → (z : ℕ) × (row_of cells last v ≡ Some z) × Reached good goes es cells at x k v z

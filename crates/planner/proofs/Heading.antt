@@ -1,5 +1,5 @@
 -- Lemmas: both headings keep the laws.
-use Rattle.std.proofs.Common.{◌≡◌, ℕ, ◌<◌, ◌≤◌, Bool, List, Some, None, Option, refl, ap, ◌∙◌, subst}
+use Rattle.std.proofs.Common.{◌≡◌, ℕ, ◌<◌, ◌≤◌, Bool, List, length, Some, None, Option, refl, ap, ◌∙◌, subst}
 use Rattle.books.specs.Meaning.{Exits, Lawful}
 use Rattle.books.specs.Options.{none_not_some}
 use Rattle.search.specs.Laws.{Laws, Antisymmetric}
@@ -40,13 +40,13 @@ step_of d ex good goes p q e r rs cells k v =
 abbrev Fills : (ℕ → ℕ → Bool) → (ℕ → ℕ → Option ℕ) → List Reach → ℕ → ℕ → List (Option ℕ) → ℕ → Type 0
 Fills good goes es at x cells last = ((k v : ℕ) → k ≤ last → v < 64 → row_of cells k v ≡ best good goes es (lone at x) k v) × ((last ≤ 63) × Unbeaten good goes es at x cells last)
 
-pub filled_of : (d : Direction) (ex : Exits) (good : ℕ → ℕ → Bool) (goes : ℕ → ℕ → Option ℕ) → good ≡ good_of d → goes ≡ goes_of d ex → (e : Direction) → e ≡ d → (rs : List Reach) (a b t at x : ℕ) → at ≡ start_of e a b → x ≡ t → (cells : List (Option ℕ)) (last : ℕ)
+pub filled_of : (d : Direction) (ex : Exits) (good : ℕ → ℕ → Bool) (goes : ℕ → ℕ → Option ℕ) → good ≡ good_of d → goes ≡ goes_of d ex → (e : Direction) → e ≡ d → (rs : List Reach) (a b t at x : ℕ) → at ≡ start_of e a b → x ≡ t → (cells : List (Option ℕ)) (last : ℕ) → 4096 ≤ length cells
     → ((k v : ℕ) → k ≤ last → v < 64 → row_of cells k v ≡ best good goes (all_turned e rs) (lone at x) k v) → (last ≤ 63) × Unbeaten good goes (all_turned e rs) at x cells last → FilledBy d rs ex a b t cells last
-filled_of d ex good goes p q e r rs a b t at x i j cells last rows searched =
+filled_of d ex good goes p q e r rs a b t at x i j cells last long rows searched =
     let h : Fills (good_of d) (goes_of d ex) (all_turned d rs) (start_of d a b) t cells last =
     subst (λ (y : ℕ). Fills (good_of d) (goes_of d ex) (all_turned d rs) (start_of d a b) y cells last) j
     (subst (λ (f : Direction). Fills (good_of d) (goes_of d ex) (all_turned f rs) (start_of f a b) x cells last) r
     (subst (λ (u : ℕ). Fills (good_of d) (goes_of d ex) (all_turned e rs) u x cells last) i
     (subst (λ (f : ℕ → ℕ → Option ℕ). Fills (good_of d) f (all_turned e rs) at x cells last) q
     (subst (λ (f : ℕ → ℕ → Bool). Fills f goes (all_turned e rs) at x cells last) p (rows, searched))))) in
-    record { low = h.1.0; rows = h.0; unbeaten = h.1.1 }
+    record { low = h.1.0; long = long; rows = h.0; unbeaten = h.1.1 }

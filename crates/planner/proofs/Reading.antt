@@ -1,5 +1,5 @@
 -- Lemmas: one step back through the rows of a search.
-use Rattle.std.proofs.Common.{◌≡◌, ℕ, zero, suc, ◌-◌, ◌<◌, ◌≤◌, List, [], ◌∷◌, length, get_or, Some, None, Option, sym, refl, ap, ◌∙◌, subst, arith}
+use Rattle.std.proofs.Common.{◌≡◌, ℕ, zero, suc, ◌-◌, ◌<◌, List, [], ◌∷◌, length, get_or, Some, None, Option, sym, refl, ap, ◌∙◌, subst, arith}
 use Rattle.std.specs.List.{slice_get}
 use Rattle.books.specs.Meaning.{Exits, Lawful}
 use Rattle.books.specs.Options.{none_not_some, some_one}
@@ -10,7 +10,7 @@ use Rattle.search.specs.declared.reaches.Direction.TheVariants.{Along, Against}
 use Rattle.search.specs.declared.reaches.Reach.{Reach}
 use Rattle.search.proofs.Backwards.{step}
 use Rattle.planner.specs.Headings.{good_of, passage_of, label_of, goes_of}
-use Rattle.planner.specs.Ways.{Reached, blank, Came, LegRead}
+use Rattle.planner.specs.Ways.{ReachedBy, blank, Came, LegRead}
 use Rattle.planner.proofs.Heading.{laws_of, antisymmetric_of, label_some}
 
 -- a turned reach is one that was laid, turned
@@ -33,17 +33,17 @@ same_gate : (e : Direction) (r : Reach) → (turned e r).gate ≡ r.gate
 same_gate Along r = refl
 same_gate Against r = refl
 
-module _ (gates : ℕ) (ex : Exits) (law : Lawful gates ex) (d : Direction) (rs : List Reach) (cells : List (Option ℕ)) (long : 4096 ≤ length cells) (at x : ℕ) where
+module _ (gates : ℕ) (ex : Exits) (law : Lawful gates ex) (d : Direction) (rs : List Reach) (cells : List (Option ℕ)) (at x : ℕ) where
   abbrev es : List Reach
   es = all_turned d rs
 
   abbrev Before : ℕ → ℕ → ℕ → Type 0
-  Before j u y = Reached (good_of d) (goes_of d ex) es cells at x j u y
+  Before j u y = ReachedBy d rs ex cells at x j u y
 
   pub came : (j u y : ℕ) → 0 < j → Before j u y → (n : ℕ) × (step_back (good_of d) (goes_of d ex) es cells j u ≡ Some n) × Came d rs ex cells at x j u y n
   came zero u y some r = absurd (omega arith)
   came (suc i) u y some r =
-      let s = step (laws_of gates ex law d) (antisymmetric_of d) es cells at x r.last r.low long r.rows i u y r.within r.place r.stands r.least in
+      let s = step (laws_of gates ex law d) (antisymmetric_of d) es cells at x r.last r.low r.long r.rows i u y r.within r.place r.stands r.least in
       let n = s.number in
       let t = turned_at d rs n s.by s.is in
       let g = nth_getD rs n t.0 t.1 in
@@ -54,7 +54,7 @@ module _ (gates : ℕ) (ex : Exits) (law : Lawful gates ex) (d : Direction) (rs 
       let before : Before (suc i - 1) (turned d (get_or rs n blank)).from s.here =
       subst (λ (m : ℕ). Before m (turned d (get_or rs n blank)).from s.here) back
       (subst (λ (w : ℕ). Before i w s.here) start
-      (record { last = r.last; low = r.low; rows = r.rows; within = omega (arith, r.within); place = s.ins.0; stands = s.stands; least = s.least })) in
+      (record { last = r.last; low = r.low; long = r.long; rows = r.rows; within = omega (arith, r.within); place = s.ins.0; stands = s.stands; least = s.least })) in
       let on : goes_of d ex (get_or rs n blank).gate s.here ≡ Some y = ap (λ (h : ℕ). goes_of d ex h s.here) (sym (same_gate d (get_or rs n blank)) ∙ ap (λ (e : Reach). e.gate) turn) ∙ s.on in
       let p = label_some d (passage_of d ex (get_or rs n blank).gate s.here) y on in (
         n,
@@ -83,9 +83,6 @@ module _ (d : Direction) (rs : List Reach) (ex : Exits) (cells : List (Option �
   start : (turned d (get_or rs n blank)).from ≡ turn.from
   start = sym (ap (λ (q : Reach). q.from) (is ∙ ap (λ (f : Direction). turned f (get_or rs n blank)) heads))
 
-  pub starts_low : turn.from < 64
-  starts_low = omega (arith, came.starts, start)
-
   pub stands_there : row_of cells (k - 1) turn.from ≡ Some came.here
   stands_there = ap (row_of cells (k - 1)) (sym start) ∙ came.stands
 
@@ -105,5 +102,5 @@ module _ (d : Direction) (rs : List Reach) (ex : Exits) (cells : List (Option �
       here = y;
       passes = passes;
       gives = ap (label_of d) (sym passes ∙ passes_there) ∙ came.gives;
-      before = subst (λ (w : ℕ). Reached (good_of d) (goes_of d ex) (all_turned d rs) cells at x (k - 1) turn.from w) same (subst (λ (u : ℕ). Reached (good_of d) (goes_of d ex) (all_turned d rs) cells at x (k - 1) u came.here) start came.before);
+      before = subst (λ (w : ℕ). ReachedBy d rs ex cells at x (k - 1) turn.from w) same (subst (λ (u : ℕ). ReachedBy d rs ex cells at x (k - 1) u came.here) start came.before);
     }

@@ -9,7 +9,7 @@ use Rattle.search.specs.declared.reaches.Direction.{Direction}
 use Rattle.search.specs.declared.reaches.Direction.TheVariants.{Along, Against}
 use Rattle.search.specs.declared.reaches.Reach.{Reach}
 use Rattle.planner.specs.Headings.{good_of, goes_of}
-use Rattle.planner.specs.Ways.{Reached, LegRead, ReadBack, in_order}
+use Rattle.planner.specs.Ways.{Reached, ReachedBy, LegRead, ReadBack, in_order}
 use Rattle.planner.specs.declared.legs.Leg.{Leg}
 
 -- row 0 has a label at the start alone
@@ -26,13 +26,13 @@ module _ (d : Direction) (rs : List Reach) (ex : Exits) (cells : List (Option �
   -- whatever legs lead back from place u complete those before i
   abbrev pub ReadTo : ℕ → ℕ → ℕ → List Leg → Type 0
   ReadTo k i u legs =
-      (y : ℕ) × Reached (good_of d) (goes_of d ex) (all_turned d rs) cells at x (k - i) u y × ((rest : List Leg) → ReadBack d rs ex at x rest u y → ReadBack d rs ex at x (take i legs ++ rest) v z)
+      (y : ℕ) × ReachedBy d rs ex cells at x (k - i) u y × ((rest : List Leg) → ReadBack d rs ex at x rest u y → ReadBack d rs ex at x (take i legs ++ rest) v z)
 
   pub read_more : (k i u : ℕ) (legs : List Leg) → i < k → k ≤ length legs → (so : ReadTo k i u legs) (l : Leg) (w : ℕ) → LegRead d rs ex cells at x (k - i) u so.0 l w → ReadTo k (i + 1) w (set legs i l)
   read_more k i u legs lt room so l w leg =
       let row : k - i - 1 ≡ k - (i + 1) = omega arith in (
         leg.here,
-        subst (λ (m : ℕ). Reached (good_of d) (goes_of d ex) (all_turned d rs) cells at x m w leg.here) row leg.before,
+        subst (λ (m : ℕ). ReachedBy d rs ex cells at x m w leg.here) row leg.before,
         λ rest on.
             subst (λ (ls : List Leg). ReadBack d rs ex at x ls v z) (sym (ap (λ (ls : List Leg). ls ++ rest) (take_more_set legs i l (omega arith)) ∙ append_assoc (take i legs) (l ∷ []) rest))
             (so.2 (l ∷ rest) (leg.reach, leg.laid, leg.to, leg.here, leg.passes, leg.gives, subst (λ (p : ℕ). ReadBack d rs ex at x rest p leg.here) (sym leg.from) on)),

@@ -19,6 +19,7 @@ use Rattle.planner.specs.declared.ways.Aim.TheVariants.{Time, Reaches}
 -- A search filled the cells up to the last row, for a way from a to b at the instant t.
 pub record FilledBy (d : Direction) (rs : List Reach) (ex : Exits) (a b t : ℕ) (cells : List (Option ℕ)) (last : ℕ) : Type 0 where
   pub low : last ≤ 63
+  pub long : 4096 ≤ length cells
   pub rows : (k v : ℕ) → k ≤ last → v < 64 → row_of cells k v ≡ best (good_of d) (goes_of d ex) (all_turned d rs) (lone (start_of d a b) t) k v
   pub unbeaten : Unbeaten (good_of d) (goes_of d ex) (all_turned d rs) (start_of d a b) t cells last
 
@@ -39,11 +40,16 @@ LeastRow cells last v wanted (Some k) = (k ≤ last) × (meets wanted (row_of ce
 pub record Reached (good : ℕ → ℕ → Bool) (goes : ℕ → ℕ → Option ℕ) (es : List Reach) (cells : List (Option ℕ)) (at x k v z : ℕ) : Type 0 where
   pub last : ℕ
   pub low : last ≤ 63
+  pub long : 4096 ≤ length cells
   pub rows : (j u : ℕ) → j ≤ last → u < 64 → row_of cells j u ≡ best good goes es (lone at x) j u
   pub within : k ≤ last
   pub place : v < 64
   pub stands : row_of cells k v ≡ Some z
   pub least : (i : ℕ) → i < k → Good good (row_of cells i v) z → ⊥
+
+-- the same of a search in a direction, over a book
+abbrev pub ReachedBy : Direction → List Reach → Exits → List (Option ℕ) → ℕ → ℕ → ℕ → ℕ → ℕ → Type 0
+ReachedBy d rs ex cells at x k v z = Reached (good_of d) (goes_of d ex) (all_turned d rs) cells at x k v z
 
 -- what a list without a reach is read as
 abbrev pub blank : Reach
@@ -61,7 +67,7 @@ pub record Came (d : Direction) (rs : List Reach) (ex : Exits) (cells : List (Op
   pub passage : ℕ × ℕ
   pub passes : passage_of d ex (slice_index_or rs n blank).gate here ≡ Some passage
   pub gives : label_of d (Some passage) ≡ Some z
-  pub before : Reached (good_of d) (goes_of d ex) (all_turned d rs) cells at x (k - 1) (turned d (slice_index_or rs n blank)).from here
+  pub before : ReachedBy d rs ex cells at x (k - 1) (turned d (slice_index_or rs n blank)).from here
 
 -- the leg by which the label z came to place v in row k of a search: its passage is that of a boat whose label in the row before,
 -- at place u, is here
@@ -73,7 +79,7 @@ pub record LegRead (d : Direction) (rs : List Reach) (ex : Exits) (cells : List 
   pub here : ℕ
   pub passes : passage_of d ex reach.gate here ≡ Some (l.entry, l.exit)
   pub gives : label_of d (Some (l.entry, l.exit)) ≡ Some z
-  pub before : Reached (good_of d) (goes_of d ex) (all_turned d rs) cells at x (k - 1) u here
+  pub before : ReachedBy d rs ex cells at x (k - 1) u here
 
 -- The legs, read back from place v with the label z: the search had passed them, the last first, from place at with the label x.
 abbrev pub ReadBack : Direction → List Reach → Exits → ℕ → ℕ → List Leg → ℕ → ℕ → Type 0

@@ -1,14 +1,13 @@
 // Journeys over any book, read off the rows of a search.
 ghost use Rattle.std.specs.Prelude.{◌≡◌, ℕ, ◌<◌, ◌≤◌, None, length};
-ghost use Rattle.search.specs.Reaches.{all_turned};
 ghost use Rattle.search.specs.WayBack.{row_of};
 ghost use Rattle.planner.specs.Charts.{Charted};
 ghost use Rattle.planner.specs.Figures.{meets};
-ghost use Rattle.planner.specs.Headings.{good_of, goes_of, FitsBy, rule_by, UnbeatenBy, label_in, figures_from, figures_by};
+ghost use Rattle.planner.specs.Headings.{FitsBy, rule_by, UnbeatenBy, label_in, figures_from, figures_by};
 ghost use Rattle.planner.specs.Outcomes.{LookedFor};
 ghost use Rattle.planner.specs.Refusals.{question_fault};
 ghost use Rattle.planner.specs.Routes.{departs, arrives, figures};
-ghost use Rattle.planner.specs.Ways.{wanted_of, LeastRow, FilledBy, Reached, Came, LegRead, ReadBack, in_order};
+ghost use Rattle.planner.specs.Ways.{wanted_of, LeastRow, FilledBy, ReachedBy, Came, LegRead, ReadBack, in_order};
 
 use crate::headings::Heading;
 use crate::legs::{Answer, Leg};
@@ -35,15 +34,15 @@ fn is_wanted(label: Option<Instant>, wanted: Option<Instant>) -> bool
 
 // The label of a place in a row.
 pub(crate) fn label_at(cells: &[Option<Instant>], row: usize, place: Place) -> Option<Instant>
-    requires { (row < 64) × ((place < 64) × (4096 ≤ length cells.now)) }
+    requires { row < 64 }
     ensures { result ≡ row_of cells.now row place }
 {
-    cells[64 * row + usize::from(place)]
+    *cells.get(64 * row + usize::from(place))?
 }
 
 // The label to look for at a place: that of the last row, or any.
 fn wanted_label(aim: Aim, cells: &[Option<Instant>], last: usize, place: Place) -> Option<Instant>
-    requires { (last < 64) × ((place < 64) × (4096 ≤ length cells.now)) }
+    requires { last < 64 }
     ensures { result ≡ wanted_of aim (row_of cells.now last place) }
 {
     match aim {
@@ -54,7 +53,7 @@ fn wanted_label(aim: Aim, cells: &[Option<Instant>], last: usize, place: Place) 
 
 // The least row, up to the last, in which a place has a label that is wanted.
 fn least_row(aim: Aim, cells: &[Option<Instant>], last: usize, place: Place) -> Option<usize>
-    requires { (last < 64) × ((place < 64) × (4096 ≤ length cells.now)) }
+    requires { last < 64 }
     ensures { LeastRow cells.now last place (wanted_of aim (row_of cells.now last place)) result }
 {
     let wanted = wanted_label(aim, cells, last, place);
@@ -115,9 +114,9 @@ impl<'a, H: Heading> Course<'a, H> {
 
     // The number of the reach by which the label of a place came into a row.
     fn number(&self, cells: &[Option<Instant>], row: usize, place: Place) -> usize
-        requires sizes { (0 < row) × (4096 ≤ length cells.now) }
-        requires reached { (at x z : ℕ) × Reached (good_of H.heads) (goes_of H.heads (H.exits self.now.by.now)) (all_turned H.heads self.now.reaches.now) cells.now at x row place z }
-        ensures { (at x z : ℕ) → Reached (good_of H.heads) (goes_of H.heads (H.exits self.now.by.now)) (all_turned H.heads self.now.reaches.now) cells.now at x row place z → Came H.heads self.now.reaches.now (H.exits self.now.by.now) cells.now at x row place z result }
+        requires inner { 0 < row }
+        requires reached { (at x z : ℕ) × ReachedBy H.heads self.now.reaches.now (H.exits self.now.by.now) cells.now at x row place z }
+        ensures { (at x z : ℕ) → ReachedBy H.heads self.now.reaches.now (H.exits self.now.by.now) cells.now at x row place z → Came H.heads self.now.reaches.now (H.exits self.now.by.now) cells.now at x row place z result }
     {
         let direction = self.by.direction();
         let reaches = self.reaches;
@@ -132,9 +131,9 @@ impl<'a, H: Heading> Course<'a, H> {
 
     // Its leg, and the place from which the search went over it.
     fn leg(&self, cells: &[Option<Instant>], row: usize, place: Place) -> (Leg, Place)
-        requires sizes { (0 < row) × (4096 ≤ length cells.now) }
-        requires reached { (at x z : ℕ) × Reached (good_of H.heads) (goes_of H.heads (H.exits self.now.by.now)) (all_turned H.heads self.now.reaches.now) cells.now at x row place z }
-        ensures { (at x z : ℕ) → Reached (good_of H.heads) (goes_of H.heads (H.exits self.now.by.now)) (all_turned H.heads self.now.reaches.now) cells.now at x row place z → LegRead H.heads self.now.reaches.now (H.exits self.now.by.now) cells.now at x row place z result.0 result.1 }
+        requires inner { 0 < row }
+        requires reached { (at x z : ℕ) × ReachedBy H.heads self.now.reaches.now (H.exits self.now.by.now) cells.now at x row place z }
+        ensures { (at x z : ℕ) → ReachedBy H.heads self.now.reaches.now (H.exits self.now.by.now) cells.now at x row place z → LegRead H.heads self.now.reaches.now (H.exits self.now.by.now) cells.now at x row place z result.0 result.1 }
     {
         let number = self.number(cells, row, place);
         let reach = self.reaches[number];
@@ -151,9 +150,8 @@ impl<'a, H: Heading> Course<'a, H> {
 
     // Fills the list with the legs of the way that leads to a place in the row of as many reaches.
     fn write(&self, cells: &[Option<Instant>], place: Place, legs: &mut [Leg])
-        requires long { 4096 ≤ length cells.now }
-        requires reached { (at x z : ℕ) × Reached (good_of H.heads) (goes_of H.heads (H.exits self.now.by.now)) (all_turned H.heads self.now.reaches.now) cells.now at x (length legs.old) place z }
-        ensures { (at x z : ℕ) → Reached (good_of H.heads) (goes_of H.heads (H.exits self.now.by.now)) (all_turned H.heads self.now.reaches.now) cells.now at x (length legs.old) place z → ReadBack H.heads self.now.reaches.now (H.exits self.now.by.now) at x (in_order H.heads legs.new) place z }
+        requires { (at x z : ℕ) × ReachedBy H.heads self.now.reaches.now (H.exits self.now.by.now) cells.now at x (length legs.old) place z }
+        ensures { (at x z : ℕ) → ReachedBy H.heads self.now.reaches.now (H.exits self.now.by.now) cells.now at x (length legs.old) place z → ReadBack H.heads self.now.reaches.now (H.exits self.now.by.now) at x (in_order H.heads legs.new) place z }
     {
         let row = legs.len();
         let mut end = place;

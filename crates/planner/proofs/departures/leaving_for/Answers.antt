@@ -7,7 +7,7 @@ use Rattle.planner.proofs.Departing.{BestLabel, row_best, departure_there, depar
 use Rattle.planner.proofs.departures.leaving_for.Goals as goal
 
 pub label_at-requires : goal.label_at-requires
-label_at-requires g c = (omega (arith, c.fill-last.ensures.low), (c.requires.asked.0, omega (arith, c.requires.asked.1.1)))
+label_at-requires g c = omega (arith, c.fill-last.ensures.low)
 
 pub unwrap-requires : goal.unwrap-requires
 unwrap-requires g c =

@@ -1,4 +1,4 @@
-use Rattle.std.proofs.Common.{ltb, length, is_some, None, ap, ◌∙◌, subst}
+use Rattle.std.proofs.Common.{ltb, length, is_some, None, ap, ◌∙◌, subst, arith}
 use Rattle.std.proofs.lemmas.Bool.{cond-false, le-ltb}
 use Rattle.search.specs.Filled.{Filled, Searched}
 use Rattle.search.specs.Reaches.{all_turned}
@@ -20,4 +20,4 @@ returns g c =
     let e = c.direction-direction.result in
     let filled = subst (Filled (g.H.Reckoning.good by) (g.H.Reckoning.goes by) (all_turned e s.reaches.now) c.turn-from.result.from c.turn-from.result.instant c.args.cells.now c.run.new.cells) c.unwrap.ensures c.run.ensures.filled in
     let walks = subst (Searched (g.H.Reckoning.good by) (g.H.Reckoning.goes by) (all_turned e s.reaches.now) c.turn-from.result.from c.turn-from.result.instant c.run.new.cells) c.unwrap.ensures c.run.ensures.walks in
-    filled_of h.heads (h.exits by) _ _ (laws.good_is by) (laws.goes_is by) e c.direction-direction.ensures s.reaches.now t.from t.to t.instant _ _ c.turn-from.ensures.from c.turn-from.ensures.instant c.run.new.cells c.unwrap.result filled.0 walks
+    filled_of h.heads (h.exits by) _ _ (laws.good_is by) (laws.goes_is by) e c.direction-direction.ensures s.reaches.now t.from t.to t.instant _ _ c.turn-from.ensures.from c.turn-from.ensures.instant c.run.new.cells c.unwrap.result (omega (arith, c.requires, c.run.auto.cells)) filled.0 walks

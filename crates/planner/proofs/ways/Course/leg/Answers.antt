@@ -1,5 +1,5 @@
 use Rattle.std.proofs.Common.{◌<◌, length, is_some, sym, ap, ◌∙◌, arith, rules}
-use Rattle.planner.proofs.Reading.{starts_low, stands_there, passes_there, leg_there}
+use Rattle.planner.proofs.Reading.{stands_there, passes_there, leg_there}
 use Rattle.planner.proofs.ways.Course.leg.Goals as goal
 
 pub bounds-self-number : goal.bounds-self-number
@@ -12,12 +12,7 @@ offset_bounds-self-number g c =
     search rules
 
 pub label_at-requires : goal.label_at-requires
-label_at-requires g c =
-    let r = c.requires.reached in
-    let s = c.args.self.now in
-    let h = g.H.Heading in
-    let came = c.number-number.ensures r.0 r.1 r.2 r.3 in
-    (omega (arith, came.row), (starts_low h.heads s.reaches.now (h.exits s.by.now) c.args.cells.now r.0 r.1 c.args.row c.args.place r.2 c.number-number.result came c.direction.result c.direction.ensures c.turn-start.result c.turn-start.ensures, c.requires.sizes.1))
+label_at-requires g c = let r = c.requires.reached in omega (arith, (c.number-number.ensures r.0 r.1 r.2 r.3).row)
 
 pub unwrap-here-requires : goal.unwrap-here-requires
 unwrap-here-requires g c =

@@ -26,8 +26,8 @@ returns-in_err-row-clause-figures g c =
     let end = c.turn-end.ensures.to ∙ ap (λ (f : Direction). end_of f t.from t.to) c.direction.ensures in
     (asked_none (h.gates by) (h.exits by) (g.met.H.Heading.lawful by) s.reaches.now s.charted h.heads c.args.aim c.fill-last.new.cells t.from t.to t.instant c.fill-last.result c.fill-last.ensures fit.2 c.turn-end.result.to end c.in_err-row.ensures c.args.legs.now c.from_residual.result c.from_residual.ensures).1
 
-pub write-requires-clause-reached : goal.write-requires-clause-reached
-write-requires-clause-reached g c =
+pub write-requires : goal.write-requires
+write-requires g c =
     let h = g.H.Heading in
     let s = c.args.self.now in
     let by = s.by.now in

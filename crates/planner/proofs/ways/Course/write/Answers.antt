@@ -1,7 +1,5 @@
 use Rattle.std.proofs.Common.{◌≡◌, ℕ, ◌-◌, ◌≤◌, List, length, sym, subst, arith}
-use Rattle.search.specs.Reaches.{all_turned}
-use Rattle.planner.specs.Headings.{good_of, goes_of}
-use Rattle.planner.specs.Ways.{Reached, ReadBack}
+use Rattle.planner.specs.Ways.{ReachedBy, ReadBack}
 use Rattle.planner.specs.declared.legs.Leg.{Leg}
 use Rattle.planner.proofs.Writing.{read_more, read_all, turned_round, left_so}
 use Rattle.planner.proofs.ways.Course.write.Goals as goal
@@ -11,10 +9,10 @@ loop-i-init g c at x z r =
     let d = g.H.Heading.heads in
     let s = c.args.self.now in
     let first : length c.args.legs.now ≡ length c.args.legs.now - 0 = omega arith in
-    (z, subst (λ (m : ℕ). Reached (good_of d) (goes_of d (g.H.Heading.exits s.by.now)) (all_turned d s.reaches.now) c.args.cells.now at x m c.args.place z) first r, λ rest on. on)
+    (z, subst (λ (m : ℕ). ReachedBy d s.reaches.now (g.H.Heading.exits s.by.now) c.args.cells.now at x m c.args.place z) first r, λ rest on. on)
 
 pub leg-start-requires-clause-reached : goal.leg-start-requires-clause-reached
-leg-start-requires-clause-reached g c = let r = c.requires.reached in let so = c.loop-i.invariant r.0 r.1 r.2 r.3 in (r.0, r.1, so.0, so.1)
+leg-start-requires-clause-reached g c = let r = c.requires in let so = c.loop-i.invariant r.0 r.1 r.2 r.3 in (r.0, r.1, so.0, so.1)
 
 pub loop-i-preserved : goal.loop-i-preserved
 loop-i-preserved g c at x z r =
