@@ -1,57 +1,51 @@
 // The fastest journey: departures outside, rounds of reaches inside.
 ghost use Rattle.std.specs.Prelude.{◌≡◌, ◌<◌, ◌≤◌, length};
-ghost use Rattle.planner.specs.Charts.{Charted};
 ghost use Rattle.planner.specs.Departures.{ArrivesFirst, LeavesLast, FastestChoice};
 
 use crate::reckonings::{EarliestArrival, LatestDeparture};
 use crate::trips::Trip;
-use crate::ways::label_at;
+use crate::ways::{Course, label_at};
 use books::book::{Book, Instant, LAST_INSTANT};
-use search::reaches::{Direction, Place, Reach};
+use search::reaches::Direction;
 use search::rows::{Search, first_row};
 
-// The latest departure that still arrives at e, where a journey that is ready at d does.
+// The latest departure that still arrives at e, where a journey that is ready for the trip does.
 fn leaving_for<B: Book>(
-    book: &B,
-    reaches: &[Reach],
-    from: Place,
-    to: Place,
-    d: Instant,
+    back: &Course<LatestDeparture<B>>,
+    trip: Trip,
     e: Instant,
     cells: &mut [Option<Instant>],
 ) -> Instant
-    requires asked { (from < 64) × ((to < 64) × ((4096 ≤ length cells.old) × (Charted reaches.now))) }
-    requires there { ArrivesFirst reaches.now (B.Book.exits book.now) from to d e }
-    ensures since { d ≤ result }
-    ensures first { ArrivesFirst reaches.now (B.Book.exits book.now) from to result e }
+    requires asked { (trip.from < 64) × ((trip.to < 64) × (4096 ≤ length cells.old)) }
+    requires there { ArrivesFirst back.now.reaches.now (B.Book.exits back.now.by.now.book.now) trip.from trip.to trip.instant e }
+    ensures since { trip.instant ≤ result }
+    ensures first { ArrivesFirst back.now.reaches.now (B.Book.exits back.now.by.now.book.now) trip.from trip.to result e }
 {
-    let by = LatestDeparture { book };
-    let last = Search {
-        by: &by,
-        direction: Direction::Against,
-        reaches,
-    }
-    .run(to, e, cells)
-    .unwrap();
-    label_at(cells, last, from).unwrap()
+    let due = Trip { instant: e, ..trip };
+    let last = back.fill(due, cells);
+    label_at(cells, last, trip.from).unwrap()
 }
 
-// The departure of the fastest journey that is ready at an instant; of equally fast ones, the earliest.
+// The departure of the fastest journey that is ready for the trip; of equally fast ones, the earliest.
 pub(crate) fn fastest_departure<B: Book>(
-    book: &B,
-    reaches: &[Reach],
+    ahead: &Course<EarliestArrival<B>>,
     trip: Trip,
     cells: &mut [Option<Instant>],
 ) -> Option<Instant>
-    requires asked { (trip.from < 64) × ((trip.to < 64) × ((trip.instant ≤ 20160) × (4096 ≤ length cells.old))) }
-    requires charted { Charted reaches.now }
-    ensures { FastestChoice reaches.now (B.Book.exits book.now) trip.from trip.to trip.instant result }
+    requires { (trip.from < 64) × ((trip.to < 64) × ((trip.instant ≤ 20160) × (4096 ≤ length cells.old))) }
+    ensures { FastestChoice ahead.now.reaches.now (B.Book.exits ahead.now.by.now.book.now) trip.from trip.to trip.instant result }
 {
-    let by = EarliestArrival { book };
-    let search = Search {
+    let by = LatestDeparture {
+        book: ahead.by.book,
+    };
+    let back = Course {
         by: &by,
+        reaches: ahead.reaches,
+    };
+    let search = Search {
+        by: ahead.by,
         direction: Direction::Along,
-        reaches,
+        reaches: ahead.reaches,
     };
     let mut best = None;
     let mut time = LAST_INSTANT + 1;
@@ -70,7 +64,7 @@ pub(crate) fn fastest_departure<B: Book>(
             break 'departures;
         };
         if arrival - d < time {
-            let leaves = leaving_for(book, reaches, trip.from, trip.to, d, arrival, cells);
+            let leaves = leaving_for(&back, Trip { instant: d, ..trip }, arrival, cells);
             best = Some(leaves);
             time = arrival - leaves;
         }
