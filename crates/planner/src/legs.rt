@@ -16,6 +16,13 @@ pub struct Leg {
     pub exit: Instant,
 }
 
+// An entry of a leg list that no question has written.
+pub const NO_LEG: Leg = Leg {
+    reach: 0,
+    entry: 0,
+    exit: 0,
+};
+
 impl fmt::Display for Leg {
     ghost output = { λ leg. Some (leg_text leg) };
 

@@ -4,7 +4,7 @@
 
 use crate::charts::show_search;
 use crate::notes::{lift, post};
-use crate::trips::{Asked, back, last, next, out};
+use crate::trips::{Asked, Way};
 use books::book::{Book, Gate, Instant};
 use books::tides::TideBook;
 use books::windows::WindowBook;
@@ -19,28 +19,17 @@ mod notes;
 mod texts;
 mod trips;
 
-// Out through two gates, one after the other.
-fn go_out<F: Book, S: Book>(
-    rt: &HostRuntime,
-    near: Asked<'_, F>,
-    far: Asked<'_, S>,
-) -> io::Result<()> {
+fn go_out<N: Book, F: Book>(rt: &HostRuntime, way: Way<'_, N, F>) -> io::Result<()> {
     println!(rt; "out, ready at 0")?;
-    match out(rt, near, far, 0)? {
+    match way.out(rt, 0)? {
         Some(exit) => println!(rt; "out at {exit}"),
         None => println!(rt; "no way out"),
     }
 }
 
-// And back.
-fn go_back<F: Book, S: Book>(
-    rt: &HostRuntime,
-    near: Asked<'_, F>,
-    far: Asked<'_, S>,
-    due: Instant,
-) -> io::Result<()> {
+fn go_back<N: Book, F: Book>(rt: &HostRuntime, way: Way<'_, N, F>, due: Instant) -> io::Result<()> {
     println!(rt; "back, due at {due}")?;
-    match back(rt, near, far, due)? {
+    match way.back(rt, due)? {
         Some(entry) => println!(rt; "in by {entry}"),
         None => println!(rt; "no way back"),
     }
@@ -52,48 +41,56 @@ fn travel(rt: &HostRuntime) -> io::Result<()> {
     let tides = [TIDE];
     let timed = WindowBook::new(&passages, &windows);
     let tidal = TideBook::new(&tides);
-    let near = Asked {
-        kind: "timed",
-        book: &timed,
-        gate: 0,
+    let way = Way {
+        near: Asked {
+            kind: "timed",
+            book: &timed,
+            gate: 0,
+        },
+        far: Asked {
+            kind: "tide",
+            book: &tidal,
+            gate: 0,
+        },
     };
-    let far = Asked {
-        kind: "tide",
-        book: &tidal,
-        gate: 0,
-    };
-    go_out(rt, near, far)?;
-    go_back(rt, near, far, 300)?;
-    let timed = Sample {
-        name: "the timed gate and its window",
-        found: timed.check(),
-    };
-    let tidal = Sample {
-        name: "the tide gate",
-        found: tidal.check(),
-    };
-    println!(rt; "{timed}")?;
-    println!(rt; "{tidal}")
+    go_out(rt, way)?;
+    go_back(rt, way, 300)?;
+    let checks = [
+        Sample {
+            name: "the timed gate and its window",
+            found: timed.check(),
+        },
+        Sample {
+            name: "the tide gate",
+            found: tidal.check(),
+        },
+    ];
+    for check in checks {
+        println!(rt; "{check}")?;
+    }
+    Ok(())
 }
 
 fn notice(gate: Gate, begin: Instant, end: Instant) -> Notice {
     Notice { gate, begin, end }
 }
 
-// Gates 0 and 1 of a layered book, each asked by its number there.
+// A gate of a layered book, asked by its number there.
+fn layered_gate<B>(book: &B, gate: Gate) -> Asked<'_, B> {
+    Asked {
+        kind: "layered",
+        book,
+        gate,
+    }
+}
+
+// Out through gates 0 and 1 of a layered book.
 fn pass<B: Book>(rt: &HostRuntime, book: &B) -> io::Result<()> {
-    let kind = "layered";
-    let near = Asked {
-        kind,
-        book,
-        gate: 0,
+    let way = Way {
+        near: layered_gate(book, 0),
+        far: layered_gate(book, 1),
     };
-    let far = Asked {
-        kind,
-        book,
-        gate: 1,
-    };
-    go_out(rt, near, far)
+    go_out(rt, way)
 }
 
 // A notice is posted on the tide gate and lifted again; some calls are declined.
@@ -121,13 +118,9 @@ fn pair<B: Book>(
 ) -> io::Result<()> {
     post(rt, book, one)?;
     post(rt, book, two)?;
-    let tide = Asked {
-        kind: "layered",
-        book,
-        gate: 1,
-    };
-    let _ = next(rt, tide, 30)?;
-    let _ = last(rt, tide, due)?;
+    let tide = layered_gate(book, 1);
+    let _ = tide.next(rt, 30)?;
+    let _ = tide.last(rt, due)?;
     lift(rt, book, one)?;
     lift(rt, book, two)
 }
@@ -147,18 +140,12 @@ fn layered(rt: &HostRuntime) -> io::Result<()> {
     pair(rt, &mut book, notice(1, 130, 160), notice(1, 70, 120), 189)
 }
 
-// One book for each kind of fault.
-fn check_faulty(rt: &HostRuntime) -> io::Result<()> {
-    for sample in faulty_books() {
-        println!(rt; "{sample}")?;
-    }
-    Ok(())
-}
-
 fn main(rt: HostRuntime) -> io::Result<()> {
     travel(&rt)?;
     layered(&rt)?;
-    check_faulty(&rt)?;
+    for sample in faulty_books() {
+        println!(rt; "{sample}")?;
+    }
     show_search(&rt)?;
     let count = worked_examples();
     println!(rt; "{count} worked examples hold")

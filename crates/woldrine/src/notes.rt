@@ -7,6 +7,7 @@ use layers::notices::{Notice, Noticed};
 use layers::replies::Reply;
 use std::io;
 
+// Two functions: one for both calls would take six parameters for its two lines.
 pub fn post<B: Book>(rt: &HostRuntime, book: &mut Noticed<B>, notice: Notice) -> io::Result<()>
     ensures { book.new.notices.items ≡ after_post (B.Book.gates book.old.book) book.old.notices.items notice }
 {

@@ -25,58 +25,53 @@ impl<B> fmt::Display for Asked<'_, B> {
     }
 }
 
-// Asks for the next passage.
-pub fn next<B: Book>(
-    rt: &HostRuntime,
-    asked: Asked<'_, B>,
-    t: Instant,
-) -> io::Result<Option<(Instant, Instant)>>
-    ensures { IfOk result (λ a. a ≡ first_open (B.Book.exits asked.entry.book.now asked.entry.gate) t) }
-{
-    let times = next_passage(asked.book, asked.gate, t);
-    println!(rt; "first of {asked} from {t}: {}", Passage(times))?;
-    Ok(times)
+// One function for both directions is no plainer: the call, both words and what is promised differ.
+impl<B: Book> Asked<'_, B> {
+    // Asks for the next passage.
+    pub fn next(self, rt: &HostRuntime, t: Instant) -> io::Result<Option<(Instant, Instant)>>
+        ensures { IfOk result (λ a. a ≡ first_open (B.Book.exits self.entry.book.now self.entry.gate) t) }
+    {
+        let times = next_passage(self.book, self.gate, t);
+        println!(rt; "first of {self} from {t}: {}", Passage(times))?;
+        Ok(times)
+    }
+
+    // Asks for the last passage.
+    pub fn last(self, rt: &HostRuntime, t: Instant) -> io::Result<Option<(Instant, Instant)>>
+        ensures { IfOk result (λ a. a ≡ last_open (B.Book.exits self.entry.book.now self.entry.gate) t) }
+    {
+        let times = last_passage(self.book, self.gate, t);
+        println!(rt; "last of {self} by {t}: {}", Passage(times))?;
+        Ok(times)
+    }
 }
 
-// Asks for the last passage.
-pub fn last<B: Book>(
-    rt: &HostRuntime,
-    asked: Asked<'_, B>,
-    t: Instant,
-) -> io::Result<Option<(Instant, Instant)>>
-    ensures { IfOk result (λ a. a ≡ last_open (B.Book.exits asked.entry.book.now asked.entry.gate) t) }
-{
-    let times = last_passage(asked.book, asked.gate, t);
-    println!(rt; "last of {asked} by {t}: {}", Passage(times))?;
-    Ok(times)
+// A way through two gates, one after the other.
+#[derive_where(Clone, Copy)]
+pub struct Way<'a, N, F> {
+    pub near: Asked<'a, N>,
+    pub far: Asked<'a, F>,
 }
 
-// Through one gate and then another; when the boat comes out.
-pub fn out<F: Book, S: Book>(
-    rt: &HostRuntime,
-    near: Asked<'_, F>,
-    far: Asked<'_, S>,
-    ready: Instant,
-) -> io::Result<Option<Instant>>
-    ensures { IfOk result (λ a. a ≡ out_at (F.Book.exits near.entry.book.now near.entry.gate) (S.Book.exits far.entry.book.now far.entry.gate) ready) }
-{
-    let Some((_, between)) = next(rt, near, ready)? else {
-        return Ok(None);
-    };
-    Ok(next(rt, far, between)?.map(|(_, exit)| exit))
-}
+// Both directions in one function are no plainer: they take the gates in opposite orders, and differ in each call.
+impl<N: Book, F: Book> Way<'_, N, F> {
+    // Through both gates; when the boat comes out.
+    pub fn out(self, rt: &HostRuntime, ready: Instant) -> io::Result<Option<Instant>>
+        ensures { IfOk result (λ a. a ≡ out_at (N.Book.exits self.entry.near.book.now self.entry.near.gate) (F.Book.exits self.entry.far.book.now self.entry.far.gate) ready) }
+    {
+        let Some((_, between)) = self.near.next(rt, ready)? else {
+            return Ok(None);
+        };
+        Ok(self.far.next(rt, between)?.map(|(_, exit)| exit))
+    }
 
-// Backwards from a due instant; when the boat has to enter the first of the two gates.
-pub fn back<F: Book, S: Book>(
-    rt: &HostRuntime,
-    near: Asked<'_, F>,
-    far: Asked<'_, S>,
-    due: Instant,
-) -> io::Result<Option<Instant>>
-    ensures { IfOk result (λ a. a ≡ in_by (F.Book.exits near.entry.book.now near.entry.gate) (S.Book.exits far.entry.book.now far.entry.gate) due) }
-{
-    let Some((between, _)) = last(rt, far, due)? else {
-        return Ok(None);
-    };
-    Ok(last(rt, near, between)?.map(|(entry, _)| entry))
+    // Backwards from a due instant; when the boat has to enter the near gate.
+    pub fn back(self, rt: &HostRuntime, due: Instant) -> io::Result<Option<Instant>>
+        ensures { IfOk result (λ a. a ≡ in_by (N.Book.exits self.entry.near.book.now self.entry.near.gate) (F.Book.exits self.entry.far.book.now self.entry.far.gate) due) }
+    {
+        let Some((between, _)) = self.far.last(rt, due)? else {
+            return Ok(None);
+        };
+        Ok(self.near.last(rt, between)?.map(|(entry, _)| entry))
+    }
 }
