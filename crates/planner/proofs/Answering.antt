@@ -1,28 +1,30 @@
 -- Lemmas: what stands at the head of the leg list after a search is the answer.
-use Rattle.std.proofs.Common.{◌≡◌, ℕ, ◌<◌, ◌≤◌, List, length, take, drop, Some, None, Option, sym, refl, ap, ◌∙◌, subst, arith}
+use Rattle.std.proofs.Common.{◌≡◌, ℕ, ◌++◌, ◌<◌, ◌≤◌, List, [], ◌∷◌, length, take, drop, reverse, Some, None, Option, sym, refl, ap, ◌∙◌, subst, arith}
 use Rattle.std.proofs.lemmas.Bool.{leb-true, le-leb}
+use Rattle.std.proofs.lemmas.List.{reverse-append, reverse-reverse, take_at, drop_at}
 use Rattle.books.specs.Meaning.{Exits, Lawful}
-use Rattle.search.specs.Laws.{Laws}
+use Rattle.books.specs.Options.{some_one}
 use Rattle.search.specs.Reaches.{all_turned}
-use Rattle.search.specs.Rows.{lone, best}
-use Rattle.search.specs.Walks.{Unbeaten}
+use Rattle.search.specs.Walks.{Leads, led}
 use Rattle.search.specs.WayBack.{row_of}
+use Rattle.search.specs.declared.reaches.Direction.{Direction}
 use Rattle.search.specs.declared.reaches.Direction.TheVariants.{Along, Against}
 use Rattle.search.specs.declared.reaches.Reach.{Reach}
 use Rattle.planner.specs.Charts.{Charted}
-use Rattle.planner.specs.Figures.{foremost_figures, fewest_figures, latest_figures}
-use Rattle.planner.specs.Journeys.{Journey, NoSuchJourney, Ready, Due, ForemostUnbeaten, FewestUnbeaten, LatestUnbeaten}
-use Rattle.planner.specs.Outcomes.{Found, LookedFor, AheadUnbeaten, ahead_figures, arrival_figures, departure_figures}
-use Rattle.planner.specs.Reckonings.{no_later, comes_out, earliest_laws, earliest_antisymmetric, no_sooner, goes_in, latest_laws, latest_antisymmetric}
-use Rattle.planner.specs.Routes.{along, against, departs, arrives, figures}
-use Rattle.planner.specs.Ways.{wanted_of, LeastRow, Reached, AtFirst, AtLast, Written}
+use Rattle.planner.specs.Headings.{good_of, goes_of, start_of, end_of, FitsBy, rule_by, UnbeatenBy, label_in, figures_from, figures_by}
+use Rattle.planner.specs.Journeys.{Journey, NoSuchJourney}
+use Rattle.planner.specs.Outcomes.{Found, LookedFor}
+use Rattle.planner.specs.Routes.{departs, arrives, figures}
+use Rattle.planner.specs.Ways.{wanted_of, LeastRow, FilledBy, Reached, ReadBack, in_order, AtFirst, AtLast, Written}
 use Rattle.planner.specs.declared.legs.Answer.{Answer}
 use Rattle.planner.specs.declared.legs.Leg.{Leg}
 use Rattle.planner.specs.declared.ways.Aim.{Aim}
 use Rattle.planner.specs.declared.ways.Aim.TheVariants.{Time, Reaches}
-use Rattle.planner.proofs.Choosing.{no_walk, no_best, no_any, best_row, any_row, best_worth, any_worth, best_figures_none, any_figures_none, best_figures, any_figures}
+use Rattle.planner.proofs.Choosing.{Worth, Chosen, chosen_row, no_walk, chosen_none}
 use Rattle.planner.proofs.DueJourneys.{journey_walk_back, last_departs, last_due, last_against, last_journey}
-use Rattle.planner.proofs.ReadyJourneys.{journey_walk, first_arrives, first_along, first_journey, first_ready, route_of}
+use Rattle.planner.proofs.Fitting.{Fits}
+use Rattle.planner.proofs.Heading.{laws_of, antisymmetric_of}
+use Rattle.planner.proofs.ReadyJourneys.{first_more, journey_walk, first_arrives, first_along, first_journey, first_ready, route_of}
 
 -- the answer is the figures of k legs that are a journey by the rule
 module _ (rs : List Reach) (ex : Exits) (a b t : ℕ) (Fits : ℕ → ℕ → Type 0) (by_rule : List ℕ → Option (List Leg)) (k : ℕ) (old new : List Leg) (Are : List Leg → Type 0) (written : Written k old new Are) (ans : Answer) (is : ans ≡ figures t (take k new)) where
@@ -43,151 +45,126 @@ module _ (rs : List Reach) (ex : Exits) (a b t : ℕ) (Fits : ℕ → ℕ → Ty
     unbeaten = unbeaten;
   }
 
--- ---- journeys that are ready at t
-module _ (gates : ℕ) (ex : Exits) (law : Lawful gates ex) (rs : List Reach) (charted : Charted rs) (cells : List (Option ℕ)) (a b t last : ℕ) (there : b < 64) (in_time : t ≤ 20160)
-    (rows : (k v : ℕ) → k ≤ last → v < 64 → row_of cells k v ≡ best no_later (comes_out ex) (all_turned Along rs) (lone a t) k v) (searched : (last ≤ 63) × Unbeaten no_later (comes_out ex) (all_turned Along rs) a t cells last) where
-  laws : Laws no_later (comes_out ex)
-  laws = earliest_laws gates ex law
+-- ---- legs that are read back
+-- along the reaches, in their order, each is entered as soon as can be
+read_first : (rs : List Reach) (ex : Exits) (a t : ℕ) (ls : List Leg) (b z : ℕ) → ReadBack Along rs ex a t ls b z → AtFirst rs ex a t (reverse ls) b z
+read_first rs ex a t [] b z h = h
+read_first rs ex a t (l ∷ ls) b z h =
+    let out : l.exit ≡ z = some_one (Some l.exit) l.exit z refl h.5 in
+    let more = first_more rs ex a t (reverse ls) h.0.from h.3 (read_first rs ex a t ls h.0.from h.3 h.6) l h.0 h.1 refl h.4 in
+    subst (λ (ks : List Leg). AtFirst rs ex a t ks b z) (sym (reverse-append (l ∷ []) ls))
+    (subst (λ (w : ℕ). AtFirst rs ex a t (reverse ls ++ (l ∷ [])) b w) out
+    (subst (λ (w : ℕ). AtFirst rs ex a t (reverse ls ++ (l ∷ [])) w l.exit) h.2 more))
 
-  abbrev es : List Reach
-  es = all_turned Along rs
+-- against them, each is entered at the last moment
+read_last : (rs : List Reach) (ex : Exits) (b t : ℕ) (ls : List Leg) (a z : ℕ) → ReadBack Against rs ex b t ls a z → AtLast rs ex a z ls b t
+read_last rs ex b t [] a z h = (sym h.0, sym h.1)
+read_last rs ex b t (l ∷ ls) a z h =
+    (h.0, h.1, h.2, sym (some_one (Some l.entry) l.entry z refl h.5), h.3, h.4, read_last rs ex b t ls h.0.to h.3 h.6)
 
-  abbrev Asked : (Answer → Type 0) → List Leg → List Leg → Option Answer → Type 0
-  Asked UnbeatenBy old new r = LookedFor rs ex a b t (Ready t) UnbeatenBy (along rs ex t) old new r
+pub end_low : (d : Direction) (a b : ℕ) → a < 64 → b < 64 → end_of d a b < 64
+end_low Along a b la lb = lb
+end_low Against a b la lb = la
 
-  abbrev pub Foremost : Answer → Type 0
-  Foremost ans = ForemostUnbeaten rs ex a b t ans.arrival ans.reaches
+module _ (gates : ℕ) (ex : Exits) (law : Lawful gates ex) (rs : List Reach) (charted : Charted rs) where
+  -- they are a journey by the rule of entry
+  record Ruled (d : Direction) (a b t z : ℕ) (legs : List Leg) : Type 0 where
+    pub ruled : rule_by d rs ex t (route_of legs) ≡ Some legs
+    pub journey : Journey rs ex a b (departs t legs) (arrives t legs) legs
+    pub fits : FitsBy d t (departs t legs) (arrives t legs)
+    pub gives : label_in d (figures t legs) ≡ z
 
-  abbrev pub Fewest : Answer → Type 0
-  Fewest ans = FewestUnbeaten rs ex a b t ans.arrival ans.reaches
+  by_rule : (d : Direction) (a b t z : ℕ) (legs : List Leg) → t ≤ 20160 → ReadBack d rs ex (start_of d a b) t (in_order d legs) (end_of d a b) z → Ruled d a b t z legs
+  by_rule Along a b t z legs low h =
+      let g : AtFirst rs ex a t legs b z = subst (λ (ls : List Leg). AtFirst rs ex a t ls b z) (reverse-reverse legs) (read_first rs ex a t (reverse legs) b z h) in
+      record {
+        ruled = first_along gates ex law rs charted a t legs b z g;
+        journey = first_journey gates ex law rs charted a t legs b z low g;
+        fits = first_ready gates ex law rs charted a t legs b z g;
+        gives = first_arrives gates ex law rs charted a t legs b z g;
+      }
+  by_rule Against a b t z legs low h =
+      let g : AtLast rs ex a z legs b t = read_last rs ex b t legs a z h in
+      record {
+        ruled = last_against gates ex law rs charted a z legs b t g;
+        journey = last_journey gates ex law rs charted a z legs b t low g;
+        fits = last_due gates ex law rs charted a z legs b t g;
+        gives = last_departs gates ex law rs charted a z legs b t g;
+      }
 
-  no_journey : row_of cells last b ≡ None → NoSuchJourney rs ex a b (Ready t)
-  no_journey none d e legs j ready =
-      let w = journey_walk gates ex law rs charted a b d e t legs j ready in
-      no_walk laws earliest_antisymmetric es cells a t last searched.0 rows searched.1 b there none w.walk w.label w.leads w.gone
+  -- ---- what no walk betters, no journey does
+  unbeaten : (d : Direction) (aim : Aim) (a b t z k : ℕ) → ((ws : List Reach) (y : ℕ) → Leads (all_turned d rs) (start_of d a b) ws (end_of d a b) → led (goes_of d ex) t ws ≡ Some y → Worth (good_of d) aim z k y (length ws)) → UnbeatenBy d aim rs ex a b t z k
+  unbeaten Along Time a b t z k h = λ m e legs j fits.
+      let w = journey_walk gates ex law rs charted a b m e t legs j fits in
+      let worth = h w.walk w.label w.leads w.gone in
+      let le = leb-true z w.label worth.0 in
+      (omega (arith, w.by), λ same. omega (arith, worth.1 (le-leb w.label z (omega (arith, w.by))), w.long))
+  unbeaten Along Reaches a b t z k h = λ m e legs j fits.
+      let w = journey_walk gates ex law rs charted a b m e t legs j fits in
+      let worth = h w.walk w.label w.leads w.gone in
+      (omega (arith, worth.0, w.long), λ same. omega (arith, leb-true z w.label (worth.1 (omega (arith, w.long))), w.by))
+  unbeaten Against Time a b t z k h = λ m e legs j fits.
+      let w = journey_walk_back gates ex law rs charted a b m e t legs j fits in
+      let worth = h w.walk w.label w.leads w.gone in
+      let le = leb-true w.label z worth.0 in
+      (omega (arith, w.from), λ same. omega (arith, worth.1 (le-leb z w.label (omega (arith, w.from))), w.long))
+  unbeaten Against Reaches a b t z k h = λ m e legs j fits.
+      let w = journey_walk_back gates ex law rs charted a b m e t legs j fits in
+      let worth = h w.walk w.label w.leads w.gone in
+      (omega (arith, worth.0, w.long), λ same. omega (arith, leb-true w.label z (worth.1 (omega (arith, w.long))), w.from))
 
-  pub foremost_none : LeastRow cells last b (row_of cells last b) None → (old : List Leg) → Asked Foremost old old None × (None ≡ foremost_figures rs ex a b t)
-  foremost_none h old =
-      let none = no_best laws earliest_antisymmetric es cells a t last searched.0 rows searched.1 b there h in
-      ((no_journey none, refl), best_figures_none laws earliest_antisymmetric es cells a t last searched.0 rows searched.1 b there none)
+  -- where no walk leads, no journey does
+  no_journey : (d : Direction) (a b t : ℕ) → ((ws : List Reach) (y : ℕ) → Leads (all_turned d rs) (start_of d a b) ws (end_of d a b) → led (goes_of d ex) t ws ≡ Some y → ⊥) → NoSuchJourney rs ex a b (FitsBy d t)
+  no_journey Along a b t h m e legs j fits = let w = journey_walk gates ex law rs charted a b m e t legs j fits in h w.walk w.label w.leads w.gone
+  no_journey Against a b t h m e legs j fits = let w = journey_walk_back gates ex law rs charted a b m e t legs j fits in h w.walk w.label w.leads w.gone
 
-  pub fewest_none : LeastRow cells last b None None → (old : List Leg) → Asked Fewest old old None × (None ≡ fewest_figures rs ex a b t)
-  fewest_none h old =
-      let none = no_any laws earliest_antisymmetric es cells a t last searched.0 rows searched.1 b there h in
-      ((no_journey none, refl), any_figures_none laws earliest_antisymmetric es cells a t last searched.0 rows searched.1 b there none)
+  -- ---- the answer
+  module _ (d : Direction) (aim : Aim) (cells : List (Option ℕ)) (a b t last : ℕ) (filled : FilledBy d rs ex a b t cells last) (fits : Fits a b t) (v : ℕ) (end : v ≡ end_of d a b) where
+    pub there : end_of d a b < 64
+    there = end_low d a b fits.from_place fits.to_place
 
-  -- the row that is read
-  pub foremost_reached : (k : ℕ) → LeastRow cells last b (row_of cells last b) (Some k) → (z : ℕ) × (row_of cells last b ≡ Some z) × Reached no_later (comes_out ex) es cells a t k b z
-  foremost_reached k h = best_row laws earliest_antisymmetric es cells a t last searched.0 rows searched.1 b there k h
+    abbrev pub Asked : List Leg → List Leg → Option Answer → Type 0
+    Asked old new r =
+        LookedFor rs ex a b t (FitsBy d t) (λ ans. UnbeatenBy d aim rs ex a b t (label_in d ans) ans.reaches) (rule_by d rs ex t) old new r
+        × (figures_from d r ≡ figures_by d aim rs ex a b t)
 
-  pub fewest_reached : (k : ℕ) → LeastRow cells last b None (Some k) → (z : ℕ) × Reached no_later (comes_out ex) es cells a t k b z
-  fewest_reached k h = any_row laws earliest_antisymmetric es cells a t last searched.0 rows searched.1 b there k h
+    abbrev pub Row : Option ℕ → Type 0
+    Row r = LeastRow cells last v (wanted_of aim (row_of cells last v)) r
 
-  module _ (k z : ℕ) (old new : List Leg) (written : Written k old new (λ ls. AtFirst rs ex a t ls b z)) (ans : Answer) (is : ans ≡ figures t (take k new)) (within : k ≤ last) where
-    arrival : z ≡ ans.arrival
-    arrival = sym (ap (λ (x : Answer). x.arrival) is ∙ first_arrives gates ex law rs charted a t (take k new) b z written.legs)
+    at_end : (r : Option ℕ) → Row r → LeastRow cells last (end_of d a b) (wanted_of aim (row_of cells last (end_of d a b))) r
+    at_end r h = subst (λ (w : ℕ). LeastRow cells last w (wanted_of aim (row_of cells last w)) r) end h
 
-    count : k ≡ ans.reaches
-    count = as_many rs ex a b t (Ready t) (along rs ex t) k old new (λ ls. AtFirst rs ex a t ls b z) written ans is
+    pub asked_none : Row None → (legs : List Leg) (r : Option Answer) → r ≡ None → Asked legs legs r
+    asked_none h legs r is =
+        let none = chosen_none (laws_of gates ex law d) (antisymmetric_of d) (all_turned d rs) cells (start_of d a b) t last filled.low filled.rows filled.unbeaten (end_of d a b) there aim (at_end None h) in
+        let no = no_walk (laws_of gates ex law d) (antisymmetric_of d) (all_turned d rs) cells (start_of d a b) t last filled.low filled.rows filled.unbeaten (end_of d a b) there none.0 in
+        subst (Asked legs legs) (sym is) ((no_journey d a b t no, refl), none.1)
 
-    carried : (F : ℕ → ℕ → Type 0) → F z k → F ans.arrival ans.reaches
-    carried F h = subst (λ (y : ℕ). F ans.arrival y) count (subst (λ (x : ℕ). F x k) arrival h)
+    module _ (k : ℕ) (row : Row (Some k)) where
+      pub read : Chosen (laws_of gates ex law d) (antisymmetric_of d) (all_turned d rs) cells (start_of d a b) t last filled.low filled.rows filled.unbeaten (end_of d a b) there aim k
+      read = chosen_row (laws_of gates ex law d) (antisymmetric_of d) (all_turned d rs) cells (start_of d a b) t last filled.low filled.rows filled.unbeaten (end_of d a b) there aim k (at_end (Some k) row)
 
-    told : (UnbeatenBy : Answer → Type 0) → UnbeatenBy ans → Found rs ex a b t (Ready t) UnbeatenBy (along rs ex t) old new ans
-    told UnbeatenBy unbeaten =
-        found rs ex a b t (Ready t) (along rs ex t) k old new (λ ls. AtFirst rs ex a t ls b z) written ans is (omega (arith, searched.0))
-        (first_along gates ex law rs charted a t (take k new) b z written.legs) (first_journey gates ex law rs charted a t (take k new) b z in_time written.legs) (first_ready gates ex law rs charted a t (take k new) b z written.legs) UnbeatenBy unbeaten
+      low : k ≤ 63
+      low = omega (arith, row.0, filled.low)
 
-    pub foremost_some : LeastRow cells last b (row_of cells last b) (Some k) → row_of cells last b ≡ Some z → Reached no_later (comes_out ex) es cells a t k b z → Asked Foremost old new (Some ans) × (arrival_figures (Some ans) ≡ foremost_figures rs ex a b t)
-    foremost_some h top r = (
-      told Foremost (carried (ForemostUnbeaten rs ex a b t) (λ d e legs j ready.
-          let w = journey_walk gates ex law rs charted a b d e t legs j ready in
-          let worth = best_worth laws earliest_antisymmetric es cells a t last searched.0 rows searched.1 b there k z top r within w.walk w.label w.leads w.gone in
-          let le = leb-true z w.label worth.0 in
-          (omega (arith, w.by), λ same. omega (arith, worth.1 (le-leb w.label z (omega (arith, w.by))), w.long)))),
-      carried (λ x y. Some (x, y) ≡ foremost_figures rs ex a b t) (best_figures laws earliest_antisymmetric es cells a t last searched.0 rows searched.1 b there k z h top r.stands),
-    )
+      pub asked_reached : (n : ℕ) → n ≡ k → Reached (good_of d) (goes_of d ex) (all_turned d rs) cells (start_of d a b) t n v read.label
+      asked_reached n is = subst (λ (m : ℕ). Reached (good_of d) (goes_of d ex) (all_turned d rs) cells (start_of d a b) t m v read.label) (sym is) (subst (λ (w : ℕ). Reached (good_of d) (goes_of d ex) (all_turned d rs) cells (start_of d a b) t k w read.label) (sym end) read.reached)
 
-    pub fewest_some : LeastRow cells last b None (Some k) → Reached no_later (comes_out ex) es cells a t k b z → Asked Fewest old new (Some ans) × (arrival_figures (Some ans) ≡ fewest_figures rs ex a b t)
-    fewest_some h r = (
-      told Fewest (carried (FewestUnbeaten rs ex a b t) (λ d e legs j ready.
-          let w = journey_walk gates ex law rs charted a b d e t legs j ready in
-          let worth = any_worth laws earliest_antisymmetric es cells a t last searched.0 rows searched.1 b there k z h r.stands w.walk w.label w.leads w.gone in
-          (omega (arith, worth.0, w.long), λ same. omega (arith, leb-true z w.label (worth.1 (omega (arith, w.long))), w.by)))),
-      carried (λ x y. Some (x, y) ≡ fewest_figures rs ex a b t) (any_figures laws earliest_antisymmetric es cells a t last searched.0 rows searched.1 b there k z h r.stands),
-    )
-
--- ---- both aims
-module _ (gates : ℕ) (ex : Exits) (law : Lawful gates ex) (rs : List Reach) (charted : Charted rs) (cells : List (Option ℕ)) (a b t last : ℕ) (there : b < 64) (in_time : t ≤ 20160)
-    (rows : (k v : ℕ) → k ≤ last → v < 64 → row_of cells k v ≡ best no_later (comes_out ex) (all_turned Along rs) (lone a t) k v) (searched : (last ≤ 63) × Unbeaten no_later (comes_out ex) (all_turned Along rs) a t cells last) where
-  abbrev Ahead : Aim → List Leg → List Leg → Option Answer → Type 0
-  Ahead aim old new r = LookedFor rs ex a b t (Ready t) (AheadUnbeaten aim rs ex a b t) (along rs ex t) old new r × (arrival_figures r ≡ ahead_figures aim rs ex a b t)
-
-  -- no row is found
-  pub ahead_none : (aim : Aim) → LeastRow cells last b (wanted_of aim (row_of cells last b)) None → (old : List Leg) → Ahead aim old old None
-  ahead_none Time h old = foremost_none gates ex law rs charted cells a b t last there in_time rows searched h old
-  ahead_none Reaches h old = fewest_none gates ex law rs charted cells a b t last there in_time rows searched h old
-
-  -- the row that is found
-  pub ahead_reached : (aim : Aim) (k : ℕ) → LeastRow cells last b (wanted_of aim (row_of cells last b)) (Some k) → (z : ℕ) × Reached no_later (comes_out ex) (all_turned Along rs) cells a t k b z
-  ahead_reached Time k h = let r = foremost_reached gates ex law rs charted cells a b t last there in_time rows searched k h in (r.0, r.2)
-  ahead_reached Reaches k h = fewest_reached gates ex law rs charted cells a b t last there in_time rows searched k h
-
-  -- and the legs that are read from it
-  pub ahead_some : (aim : Aim) (k : ℕ) → LeastRow cells last b (wanted_of aim (row_of cells last b)) (Some k) → (old new : List Leg)
-      → ((z : ℕ) → Reached no_later (comes_out ex) (all_turned Along rs) cells a t k b z → Written k old new (λ ls. AtFirst rs ex a t ls b z)) → (ans : Answer) → ans ≡ figures t (take k new) → Ahead aim old new (Some ans)
-  ahead_some Time k h old new written ans is =
-      let r = foremost_reached gates ex law rs charted cells a b t last there in_time rows searched k h in
-      foremost_some gates ex law rs charted cells a b t last there in_time rows searched k r.0 old new (written r.0 r.2) ans is h.0 h r.1 r.2
-  ahead_some Reaches k h old new written ans is =
-      let r = fewest_reached gates ex law rs charted cells a b t last there in_time rows searched k h in
-      fewest_some gates ex law rs charted cells a b t last there in_time rows searched k r.0 old new (written r.0 r.1) ans is h.0 h r.1
-
--- ---- journeys that arrive by t
-module _ (gates : ℕ) (ex : Exits) (law : Lawful gates ex) (rs : List Reach) (charted : Charted rs) (cells : List (Option ℕ)) (a b t last : ℕ) (here : a < 64) (in_time : t ≤ 20160)
-    (rows : (k v : ℕ) → k ≤ last → v < 64 → row_of cells k v ≡ best no_sooner (goes_in ex) (all_turned Against rs) (lone b t) k v) (searched : (last ≤ 63) × Unbeaten no_sooner (goes_in ex) (all_turned Against rs) b t cells last) where
-  back_laws : Laws no_sooner (goes_in ex)
-  back_laws = latest_laws gates ex law
-
-  abbrev back : List Reach
-  back = all_turned Against rs
-
-  abbrev Sought : List Leg → List Leg → Option Answer → Type 0
-  Sought old new r = LookedFor rs ex a b t (Due t) (λ ans. LatestUnbeaten rs ex a b t ans.departure ans.reaches) (against rs ex t) old new r
-
-  pub latest_none : LeastRow cells last a (row_of cells last a) None → (old : List Leg) → Sought old old None × (None ≡ latest_figures rs ex a b t)
-  latest_none h old =
-      let none = no_best back_laws latest_antisymmetric back cells b t last searched.0 rows searched.1 a here h in (
-        (
-          (λ d e legs j due.
-              let w = journey_walk_back gates ex law rs charted a b d e t legs j due in
-              no_walk back_laws latest_antisymmetric back cells b t last searched.0 rows searched.1 a here none w.walk w.label w.leads w.gone),
-          refl,
-        ),
-        best_figures_none back_laws latest_antisymmetric back cells b t last searched.0 rows searched.1 a here none,
-      )
-
-  pub latest_reached : (k : ℕ) → LeastRow cells last a (row_of cells last a) (Some k) → (z : ℕ) × (row_of cells last a ≡ Some z) × Reached no_sooner (goes_in ex) back cells b t k a z
-  latest_reached k h = best_row back_laws latest_antisymmetric back cells b t last searched.0 rows searched.1 a here k h
-
-  module _ (k z : ℕ) (old new : List Leg) (written : Written k old new (λ ls. AtLast rs ex a z ls b t)) (ans : Answer) (is : ans ≡ figures t (take k new)) (within : k ≤ last) where
-    departure : z ≡ ans.departure
-    departure = sym (ap (λ (x : Answer). x.departure) is ∙ last_departs gates ex law rs charted a z (take k new) b t written.legs)
-
-    back_count : k ≡ ans.reaches
-    back_count = as_many rs ex a b t (Due t) (against rs ex t) k old new (λ ls. AtLast rs ex a z ls b t) written ans is
-
-    back_carried : (F : ℕ → ℕ → Type 0) → F z k → F ans.departure ans.reaches
-    back_carried F h = subst (λ (y : ℕ). F ans.departure y) back_count (subst (λ (x : ℕ). F x k) departure h)
-
-    pub latest_some : LeastRow cells last a (row_of cells last a) (Some k) → row_of cells last a ≡ Some z → Reached no_sooner (goes_in ex) back cells b t k a z → Sought old new (Some ans) × (departure_figures (Some ans) ≡ latest_figures rs ex a b t)
-    latest_some h top r = (
-      found rs ex a b t (Due t) (against rs ex t) k old new (λ ls. AtLast rs ex a z ls b t) written ans is (omega (arith, searched.0))
-          (last_against gates ex law rs charted a z (take k new) b t written.legs) (last_journey gates ex law rs charted a z (take k new) b t in_time written.legs) (last_due gates ex law rs charted a z (take k new) b t written.legs)
-          (λ x. LatestUnbeaten rs ex a b t x.departure x.reaches) (back_carried (LatestUnbeaten rs ex a b t) (λ d e legs j due.
-          let w = journey_walk_back gates ex law rs charted a b d e t legs j due in
-          let worth = best_worth back_laws latest_antisymmetric back cells b t last searched.0 rows searched.1 a here k z top r within w.walk w.label w.leads w.gone in
-          let le = leb-true w.label z worth.0 in
-          (omega (arith, w.from), λ same. omega (arith, worth.1 (le-leb z w.label (omega (arith, w.from))), w.long)))),
-      back_carried (λ x y. Some (x, y) ≡ latest_figures rs ex a b t) (best_figures back_laws latest_antisymmetric back cells b t last searched.0 rows searched.1 a here k z h top r.stands),
-    )
+      pub asked_some : (old head : List Leg) → length head ≡ k → ReadBack d rs ex (start_of d a b) t (in_order d head) v read.label → (ans : Answer) → ans ≡ figures t head → Asked old (head ++ drop k old) (Some ans)
+      asked_some old head long back ans is =
+          let new = head ++ drop k old in
+          let first : take k new ≡ head = take_at head (drop k old) k long in
+          let written : Written k old new (λ ls. ReadBack d rs ex (start_of d a b) t (in_order d ls) (end_of d a b) read.label) = record {
+            counted = ap length first ∙ long;
+            legs = subst (λ (ls : List Leg). ReadBack d rs ex (start_of d a b) t (in_order d ls) (end_of d a b) read.label) (sym first) (subst (λ (w : ℕ). ReadBack d rs ex (start_of d a b) t (in_order d head) w read.label) end back);
+            rest = drop_at head (drop k old) k long;
+          } in
+          let figured : ans ≡ figures t (take k new) = is ∙ ap (figures t) (sym first) in
+          let r = by_rule d a b t read.label (take k new) fits.in_time written.legs in
+          let label : read.label ≡ label_in d ans = sym (ap (label_in d) figured ∙ r.gives) in
+          let many : k ≡ ans.reaches = as_many rs ex a b t (FitsBy d t) (rule_by d rs ex t) k old new (λ ls. ReadBack d rs ex (start_of d a b) t (in_order d ls) (end_of d a b) read.label) written ans figured in (
+            found rs ex a b t (FitsBy d t) (rule_by d rs ex t) k old new (λ ls. ReadBack d rs ex (start_of d a b) t (in_order d ls) (end_of d a b) read.label) written ans figured low r.ruled r.journey r.fits
+                (λ x. UnbeatenBy d aim rs ex a b t (label_in d x) x.reaches)
+                (subst (λ (y : ℕ). UnbeatenBy d aim rs ex a b t (label_in d ans) y) many (subst (λ (x : ℕ). UnbeatenBy d aim rs ex a b t x k) label (unbeaten d aim a b t read.label k read.worth))),
+            subst (λ (y : ℕ). Some (label_in d ans, y) ≡ figures_by d aim rs ex a b t) many (subst (λ (x : ℕ). Some (x, k) ≡ figures_by d aim rs ex a b t) label read.figured),
+          )

@@ -23,7 +23,7 @@ use Rattle.planner.specs.Ways.{AtFirst, AtLast}
 use Rattle.planner.specs.declared.legs.Leg.{Leg}
 use Rattle.planner.proofs.DueJourneys.{journey_walk_back, last_departs, last_due, last_journey}
 use Rattle.planner.proofs.Reading.{turned_at}
-use Rattle.planner.proofs.ReadyJourneys.{journey_walk, first_arrives, first_journey, first_ready}
+use Rattle.planner.proofs.ReadyJourneys.{first_more, journey_walk, first_arrives, first_journey, first_ready}
 
 -- the label is at least as good as that of every walk, and one of them has it; or there is no walk
 abbrev pub BestLabel : (ℕ → ℕ → Bool) → (ℕ → ℕ → Option ℕ) → List Reach → ℕ → ℕ → ℕ → Option ℕ → Type 0
@@ -105,10 +105,6 @@ has_nth xs x h = (h.0, at xs h.0 h.1 (h.2 x))
     at (y ∷ ys) (suc n) l e = at ys n (omega arith) e
 
 -- ---- the legs of a walk
-first_more : (rs : List Reach) (ex : Exits) (a t : ℕ) (legs : List Leg) (u y : ℕ) → AtFirst rs ex a t legs u y → (l : Leg) (r : Reach) → slice_get rs l.reach ≡ Some r → r.from ≡ u → first_open (ex r.gate) y ≡ Some (l.entry, l.exit) → AtFirst rs ex a t (legs ++ (l ∷ [])) r.to l.exit
-first_more rs ex a t [] u y g l r is from at = (r, is, from ∙ sym g.0, ap (first_open (ex r.gate)) g.1 ∙ at, (refl, refl))
-first_more rs ex a t (m ∷ ms) u y g l r is from at = (g.0, g.1, g.2, g.3, first_more rs ex g.0.to m.exit ms u y g.4 l r is from at)
-
 walk_legs : (rs : List Reach) (ex : Exits) (a x : ℕ) (ws : List Reach) (b z : ℕ) → Leads (all_turned Along rs) a ws b → led (comes_out ex) x ws ≡ Some z → (legs : List Leg) × AtFirst rs ex a x legs b z
 walk_legs rs ex a x [] b z leads is = ([], (leads, some_one (Some x) x z refl is))
 walk_legs rs ex a x (e ∷ ws) b z leads is =

@@ -1,4 +1,5 @@
 pub mod Charting
+pub mod Heading
 pub mod Reading
 pub mod Writing
 pub mod Tables
@@ -6,6 +7,6 @@ pub mod Choosing
 pub mod ReadyJourneys
 pub mod DueJourneys
 pub mod Answering
-pub mod Fitting
 pub mod Ending
+pub mod Fitting
 pub mod Departing

@@ -1,5 +1,5 @@
 -- Lemmas: journeys that are ready at an instant, and walks along the reaches.
-use Rattle.std.proofs.Common.{◌≡◌, ℕ, suc, ◌+◌, ◌≤◌, List, [], ◌∷◌, map, length, Some, Option, sym, refl, ap, ◌∙◌, subst, arith}
+use Rattle.std.proofs.Common.{◌≡◌, ℕ, suc, ◌+◌, ◌≤◌, List, [], ◌∷◌, ◌++◌, map, length, Some, Option, sym, refl, ap, ◌∙◌, subst, arith}
 use Rattle.std.specs.List.{slice_get, ContainsAt as Has}
 use Rattle.books.specs.Meaning.{Exits, Lawful, first_open}
 use Rattle.search.specs.Reaches.{turned, all_turned}
@@ -28,6 +28,11 @@ after_leg t l (m ∷ ms) = refl
 -- the numbers of the reaches that legs go over
 abbrev pub route_of : List Leg → List ℕ
 route_of legs = map (λ (l : Leg). l.reach) legs
+
+-- a leg more, entered as soon as can be
+pub first_more : (rs : List Reach) (ex : Exits) (a t : ℕ) (legs : List Leg) (u y : ℕ) → AtFirst rs ex a t legs u y → (l : Leg) (r : Reach) → slice_get rs l.reach ≡ Some r → r.from ≡ u → first_open (ex r.gate) y ≡ Some (l.entry, l.exit) → AtFirst rs ex a t (legs ++ (l ∷ [])) r.to l.exit
+first_more rs ex a t [] u y g l r is from at = (r, is, from ∙ sym g.0, ap (first_open (ex r.gate)) g.1 ∙ at, (refl, refl))
+first_more rs ex a t (m ∷ ms) u y g l r is from at = (g.0, g.1, g.2, g.3, first_more rs ex g.0.to m.exit ms u y g.4 l r is from at)
 
 module _ (gates : ℕ) (ex : Exits) (law : Lawful gates ex) (rs : List Reach) (charted : Charted rs) where
   -- a walk of m reaches from a boat at a at t, whose label at b is e at most

@@ -1,11 +1,11 @@
 pub mod Refusals
 pub mod Texts
 pub mod Reckonings
-pub mod Headings
 pub mod Journeys
 pub mod Routes
 pub mod Charts
 pub mod Figures
+pub mod Headings
 pub mod Ways
 pub mod Departures
 pub mod Outcomes

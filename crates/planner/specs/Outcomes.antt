@@ -1,9 +1,11 @@
 -- What a question answers, and what it leaves. Assumes nothing.
 use Rattle.std.specs.Prelude.{◌≡◌, ℕ, ◌≤◌, List, [], ◌∷◌, length, take, drop, Some, None, Ok, Err, Option, Result}
 use Rattle.books.specs.Meaning.{Exits}
+use Rattle.search.specs.declared.reaches.Direction.{Direction}
 use Rattle.search.specs.declared.reaches.Reach.{Reach}
 use Rattle.planner.specs.Charts.{Told, declined_or}
 use Rattle.planner.specs.Figures.{foremost_figures, fewest_figures, latest_figures}
+use Rattle.planner.specs.Headings.{FitsBy, rule_by, UnbeatenBy, label_in}
 use Rattle.planner.specs.Journeys.{Journey, NoSuchJourney, Ready, Due, ForemostUnbeaten, FewestUnbeaten, LatestUnbeaten}
 use Rattle.planner.specs.Refusals.{number, question_fault}
 use Rattle.planner.specs.Routes.{along, against, figures}
@@ -11,7 +13,6 @@ use Rattle.planner.specs.declared.legs.Answer.{Answer}
 use Rattle.planner.specs.declared.legs.Leg.{Leg}
 use Rattle.planner.specs.declared.refusals.Refusal.{Refusal}
 use Rattle.planner.specs.declared.ways.Aim.{Aim}
-use Rattle.planner.specs.declared.ways.Aim.TheVariants.{Time, Reaches}
 
 -- ---- the figures in which ties leave no freedom, computed
 -- declined with 5 where there are none
@@ -88,23 +89,11 @@ abbrev pub LookedFor : List Reach → Exits → ℕ → ℕ → ℕ → (ℕ →
 LookedFor rs ex a b t Fits Unbeaten by_rule old new None = NoSuchJourney rs ex a b Fits × (new ≡ old)
 LookedFor rs ex a b t Fits Unbeaten by_rule old new (Some ans) = Found rs ex a b t Fits Unbeaten by_rule old new ans
 
--- what comes first of the journeys that are ready: the arrival or the number of reaches
-abbrev pub AheadUnbeaten : Aim → List Reach → Exits → ℕ → ℕ → ℕ → Answer → Type 0
-AheadUnbeaten Time rs ex a b t ans = ForemostUnbeaten rs ex a b t ans.arrival ans.reaches
-AheadUnbeaten Reaches rs ex a b t ans = FewestUnbeaten rs ex a b t ans.arrival ans.reaches
+-- label and reaches of an answer, or the number with which the question is declined
+abbrev pub told_by : Direction → Result Answer Refusal → Told
+told_by d (Ok ans) = (None, label_in d ans ∷ ans.reaches ∷ [])
+told_by d (Err f) = (Some (number f), [])
 
-abbrev pub ahead_figures : Aim → List Reach → Exits → ℕ → ℕ → ℕ → Option (ℕ × ℕ)
-ahead_figures Time rs ex a b t = foremost_figures rs ex a b t
-ahead_figures Reaches rs ex a b t = fewest_figures rs ex a b t
-
-abbrev pub AheadOutcome : Aim → List Reach → Exits → ℕ → ℕ → ℕ → List (Option ℕ) → List (Option ℕ) → List Leg → List Leg → Result Answer Refusal → Type 0
-AheadOutcome aim rs ex a b t cells cells' old new r =
-    Outcome (question_fault (length cells) (length old) a b t) rs ex a b t (Ready t) (AheadUnbeaten aim rs ex a b t) (along rs ex t) cells cells' old new r
-
-abbrev pub arrival_figures : Option Answer → Option (ℕ × ℕ)
-arrival_figures None = None
-arrival_figures (Some ans) = Some (ans.arrival, ans.reaches)
-
-abbrev pub departure_figures : Option Answer → Option (ℕ × ℕ)
-departure_figures None = None
-departure_figures (Some ans) = Some (ans.departure, ans.reaches)
+abbrev pub OutcomeBy : Direction → Aim → List Reach → Exits → ℕ → ℕ → ℕ → List (Option ℕ) → List (Option ℕ) → List Leg → List Leg → Result Answer Refusal → Type 0
+OutcomeBy d aim rs ex a b t cells cells' old new r =
+    Outcome (question_fault (length cells) (length old) a b t) rs ex a b t (FitsBy d t) (λ ans. UnbeatenBy d aim rs ex a b t (label_in d ans) ans.reaches) (rule_by d rs ex t) cells cells' old new r

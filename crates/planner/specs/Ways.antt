@@ -1,18 +1,26 @@
 -- How a journey is read off the rows of a search. Assumes nothing.
-use Rattle.std.specs.Prelude.{◌≡◌, ℕ, ◌-◌, ◌<◌, ◌≤◌, Bool, true, false, List, [], ◌∷◌, length, take, drop, Some, None, Option}
+use Rattle.std.specs.Prelude.{◌≡◌, ℕ, ◌-◌, ◌<◌, ◌≤◌, Bool, true, false, List, [], ◌∷◌, length, take, drop, reverse, Some, None, Option, slice_index_or}
 use Rattle.std.specs.List.{slice_get}
 use Rattle.books.specs.Meaning.{Exits, first_open, last_open}
-use Rattle.search.specs.Reaches.{all_turned}
+use Rattle.search.specs.Reaches.{turned, all_turned}
 use Rattle.search.specs.Rows.{lone, best}
-use Rattle.search.specs.Walks.{Good}
+use Rattle.search.specs.Walks.{Good, Unbeaten}
 use Rattle.search.specs.WayBack.{row_of}
+use Rattle.search.specs.declared.reaches.Direction.{Direction}
 use Rattle.search.specs.declared.reaches.Direction.TheVariants.{Along, Against}
 use Rattle.search.specs.declared.reaches.Reach.{Reach}
-use Rattle.planner.specs.Reckonings.{no_later, comes_out, no_sooner, goes_in}
 use Rattle.planner.specs.Figures.{meets}
+use Rattle.planner.specs.Headings.{good_of, passage_of, label_of, goes_of, start_of}
 use Rattle.planner.specs.declared.legs.Leg.{Leg}
 use Rattle.planner.specs.declared.ways.Aim.{Aim}
 use Rattle.planner.specs.declared.ways.Aim.TheVariants.{Time, Reaches}
+
+-- ---- what is searched
+-- A search filled the cells up to the last row, for a way from a to b at the instant t.
+pub record FilledBy (d : Direction) (rs : List Reach) (ex : Exits) (a b t : ℕ) (cells : List (Option ℕ)) (last : ℕ) : Type 0 where
+  pub low : last ≤ 63
+  pub rows : (k v : ℕ) → k ≤ last → v < 64 → row_of cells k v ≡ best (good_of d) (goes_of d ex) (all_turned d rs) (lone (start_of d a b) t) k v
+  pub unbeaten : Unbeaten (good_of d) (goes_of d ex) (all_turned d rs) (start_of d a b) t cells last
 
 -- ---- which row
 -- the label to look for: that of the last row, which is the best, or any
@@ -37,28 +45,46 @@ pub record Reached (good : ℕ → ℕ → Bool) (goes : ℕ → ℕ → Option 
   pub stands : row_of cells k v ≡ Some z
   pub least : (i : ℕ) → i < k → Good good (row_of cells i v) z → ⊥
 
--- the leg by which the label z came to place v in row k of a search along the reaches: it starts from place u, whose label in
--- the row before, here, is when the boat is there
-pub record LegAlong (rs : List Reach) (ex : Exits) (cells : List (Option ℕ)) (at x k v z : ℕ) (l : Leg) (u : ℕ) : Type 0 where
-  pub reach : Reach
-  pub laid : slice_get rs l.reach ≡ Some reach
-  pub from : reach.from ≡ u
-  pub to : reach.to ≡ v
-  pub here : ℕ
-  pub enters : first_open (ex reach.gate) here ≡ Some (l.entry, l.exit)
-  pub comes : l.exit ≡ z
-  pub before : Reached no_later (comes_out ex) (all_turned Along rs) cells at x (k - 1) u here
+-- what a list without a reach is read as
+abbrev pub blank : Reach
+blank = record { from = 0; to = 0; gate = 0 }
 
--- the same of a search against the reaches: the leg ends at place u, where the boat has to be at the label, here
-pub record LegAgainst (rs : List Reach) (ex : Exits) (cells : List (Option ℕ)) (at x k v z : ℕ) (l : Leg) (u : ℕ) : Type 0 where
+-- the reach with number n brought the label z to place v in row k, from the label here before it
+pub record Came (d : Direction) (rs : List Reach) (ex : Exits) (cells : List (Option ℕ)) (at x k v z n : ℕ) : Type 0 where
+  pub low : n < length rs
+  pub is : slice_get rs n ≡ Some (slice_index_or rs n blank)
+  pub ends : (turned d (slice_index_or rs n blank)).to ≡ v
+  pub starts : (turned d (slice_index_or rs n blank)).from < 64
+  pub row : k ≤ 63
+  pub here : ℕ
+  pub stands : row_of cells (k - 1) (turned d (slice_index_or rs n blank)).from ≡ Some here
+  pub passage : ℕ × ℕ
+  pub passes : passage_of d ex (slice_index_or rs n blank).gate here ≡ Some passage
+  pub gives : label_of d (Some passage) ≡ Some z
+  pub before : Reached (good_of d) (goes_of d ex) (all_turned d rs) cells at x (k - 1) (turned d (slice_index_or rs n blank)).from here
+
+-- the leg by which the label z came to place v in row k of a search: its passage is that of a boat whose label in the row before,
+-- at place u, is here
+pub record LegRead (d : Direction) (rs : List Reach) (ex : Exits) (cells : List (Option ℕ)) (at x k v z : ℕ) (l : Leg) (u : ℕ) : Type 0 where
   pub reach : Reach
   pub laid : slice_get rs l.reach ≡ Some reach
-  pub from : reach.from ≡ v
-  pub to : reach.to ≡ u
+  pub from : (turned d reach).from ≡ u
+  pub to : (turned d reach).to ≡ v
   pub here : ℕ
-  pub enters : last_open (ex reach.gate) here ≡ Some (l.entry, l.exit)
-  pub goes : l.entry ≡ z
-  pub before : Reached no_sooner (goes_in ex) (all_turned Against rs) cells at x (k - 1) u here
+  pub passes : passage_of d ex reach.gate here ≡ Some (l.entry, l.exit)
+  pub gives : label_of d (Some (l.entry, l.exit)) ≡ Some z
+  pub before : Reached (good_of d) (goes_of d ex) (all_turned d rs) cells at x (k - 1) u here
+
+-- The legs, read back from place v with the label z: the search had passed them, the last first, from place at with the label x.
+abbrev pub ReadBack : Direction → List Reach → Exits → ℕ → ℕ → List Leg → ℕ → ℕ → Type 0
+ReadBack d rs ex at x [] v z = (at ≡ v) × (x ≡ z)
+ReadBack d rs ex at x (l ∷ ls) v z =
+    (r : Reach) × (slice_get rs l.reach ≡ Some r) × ((turned d r).to ≡ v) × (here : ℕ) × (passage_of d ex r.gate here ≡ Some (l.entry, l.exit)) × (label_of d (Some (l.entry, l.exit)) ≡ Some z) × ReadBack d rs ex at x ls (turned d r).from here
+
+-- legs in the order of a journey, as they are read back, and the other way round
+abbrev pub in_order : Direction → List Leg → List Leg
+in_order Along ls = reverse ls
+in_order Against ls = ls
 
 -- The legs lead from place a to place b, each entered as soon as its gate lets in the boat that is there: it is at a at t,
 -- and at b at z.

@@ -1,12 +1,13 @@
 // Trips.
 ghost use Rattle.std.specs.Prelude.{◌≡◌};
 ghost use Rattle.planner.specs.Charts.{declined};
+ghost use Rattle.planner.specs.Headings.{start_of, end_of};
 ghost use Rattle.planner.specs.Refusals.{question_fault};
 
 use crate::legs::MOST_LEGS;
 use crate::refusals::Refusal;
 use books::book::{Instant, LAST_INSTANT};
-use search::reaches::{PLACES, Place};
+use search::reaches::{Direction, PLACES, Place};
 use search::rows::CELLS;
 
 // What a question asks for: from which place to which, and ready or due at which instant.
@@ -36,5 +37,21 @@ impl Trip {
             return Err(Refusal::NoInstant);
         }
         Ok(())
+    }
+
+    // The trip as a search in a direction goes over it.
+    pub(crate) fn turn(self, direction: Direction) -> Trip
+        ensures from { result.from ≡ start_of direction self.from self.to }
+        ensures to { result.to ≡ end_of direction self.from self.to }
+        ensures instant { result.instant ≡ self.instant }
+    {
+        match direction {
+            Direction::Along => self,
+            Direction::Against => Trip {
+                from: self.to,
+                to: self.from,
+                instant: self.instant,
+            },
+        }
     }
 }
