@@ -4,17 +4,11 @@ ghost use Rattle.std.specs.Prelude.{◌≡◌, [], IfOk, vec_len, OnOk};
 use crate::cases::Room;
 use books::book::{Book, Instant};
 use planner::charts::Planner;
-use planner::legs::Leg;
+use planner::legs::{Leg, NO_LEG};
 use std::alloc::{AllocError, Global};
 
 mod calls;
 mod changes;
-
-const NO_LEG: Leg = Leg {
-    reach: 0,
-    entry: 0,
-    exit: 0,
-};
 
 #[derive(Drop)]
 pub(crate) struct Sheet<B> {
