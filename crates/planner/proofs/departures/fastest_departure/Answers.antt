@@ -38,8 +38,8 @@ rounds-preserved g c =
     let long : 4096 ≤ length c.rounds.cells = omega arith in
     rounds_more gates ex law rs from d c.rounds.k c.rounds.last c.rounds.cells c.next_row-told.new.cells c.next_row-told.result some c.rounds-test.true long c.rounds.invariant c.next_row-told.ensures c.if-not-told.false
 
-pub label_at-requires : goal.label_at-requires
-label_at-requires g c =
+pub earliest_arrival-requires : goal.earliest_arrival-requires
+earliest_arrival-requires g c =
     let b = c.args.ahead.now.by.now.book.now in
     let gates = g.B.Book.gates b in
     let ex = g.B.Book.exits b in
@@ -54,7 +54,7 @@ label_at-requires g c =
       | else-rounds-test w ↦ searched_at gates ex law rs from d c.rounds-test.cells c.rounds.cells c.rounds-test.last c.rounds.last w.cells-is w.last-is (rounds_end gates ex law rs from d c.rounds.k c.rounds.last c.rounds.cells (omega (arith, w.rounds-test.false)) c.rounds.invariant)
       | then-rounds-test+then-not-told w ↦ searched_at gates ex law rs from d c.rounds-test.cells w.next_row-told.new.cells c.rounds-test.last c.rounds.k w.cells-is w.last-is (rounds_left gates ex law rs from d c.rounds.k c.rounds.last c.rounds.cells w.next_row-told.new.cells w.next_row-told.result some w.rounds-test.true long c.rounds.invariant w.next_row-told.ensures w.if-not-told.true)
     ] in
-    omega (arith, after.0)
+    record { asked = (c.requires.1.0, c.if-d-le-LAST_INSTANT.true); searched = after }
 
 pub overflow_sub-arrival : goal.overflow_sub-arrival
 overflow_sub-arrival g c =
@@ -66,15 +66,7 @@ overflow_sub-arrival g c =
     let from = c.args.trip.from in
     let to = c.args.trip.to in
     let d = c.departures.d in
-    let some : 0 < c.rounds.k = omega arith in
-    let long : 4096 ≤ length c.rounds.cells = omega arith in
-    let after : SearchedFrom gates ex law rs from d c.rounds-test.cells c.rounds-test.last = elim c.rounds-test.branch [
-      | else-rounds-test w ↦ searched_at gates ex law rs from d c.rounds-test.cells c.rounds.cells c.rounds-test.last c.rounds.last w.cells-is w.last-is (rounds_end gates ex law rs from d c.rounds.k c.rounds.last c.rounds.cells (omega (arith, w.rounds-test.false)) c.rounds.invariant)
-      | then-rounds-test+then-not-told w ↦ searched_at gates ex law rs from d c.rounds-test.cells w.next_row-told.new.cells c.rounds-test.last c.rounds.k w.cells-is w.last-is (rounds_left gates ex law rs from d c.rounds.k c.rounds.last c.rounds.cells w.next_row-told.new.cells w.next_row-told.result some w.rounds-test.true long c.rounds.invariant w.next_row-told.ensures w.if-not-told.true)
-    ] in
-    let row = row_of c.rounds-test.cells c.rounds-test.last to in
-    let arr = arrival gates ex law rs c.args.ahead.now.charted from to d c.if-d-le-LAST_INSTANT.true row (row_best no_later (comes_out ex) (all_turned Along rs) from d c.rounds-test.cells c.rounds-test.last after.1 to c.requires.1.0 row refl) in
-    let first = subst (Arrival rs ex from to d) (sym c.label_at.ensures ∙ c.in-Some.is) arr in
+    let first = subst (Arrival rs ex from to d) c.in-Some.is c.earliest_arrival.ensures in
     first.later
 
 pub leaving_for-leaves-requires : goal.leaving_for-leaves-requires
@@ -87,15 +79,7 @@ leaving_for-leaves-requires g c =
     let from = c.args.trip.from in
     let to = c.args.trip.to in
     let d = c.departures.d in
-    let some : 0 < c.rounds.k = omega arith in
-    let long : 4096 ≤ length c.rounds.cells = omega arith in
-    let after : SearchedFrom gates ex law rs from d c.rounds-test.cells c.rounds-test.last = elim c.rounds-test.branch [
-      | else-rounds-test w ↦ searched_at gates ex law rs from d c.rounds-test.cells c.rounds.cells c.rounds-test.last c.rounds.last w.cells-is w.last-is (rounds_end gates ex law rs from d c.rounds.k c.rounds.last c.rounds.cells (omega (arith, w.rounds-test.false)) c.rounds.invariant)
-      | then-rounds-test+then-not-told w ↦ searched_at gates ex law rs from d c.rounds-test.cells w.next_row-told.new.cells c.rounds-test.last c.rounds.k w.cells-is w.last-is (rounds_left gates ex law rs from d c.rounds.k c.rounds.last c.rounds.cells w.next_row-told.new.cells w.next_row-told.result some w.rounds-test.true long c.rounds.invariant w.next_row-told.ensures w.if-not-told.true)
-    ] in
-    let row = row_of c.rounds-test.cells c.rounds-test.last to in
-    let arr = arrival gates ex law rs c.args.ahead.now.charted from to d c.if-d-le-LAST_INSTANT.true row (row_best no_later (comes_out ex) (all_turned Along rs) from d c.rounds-test.cells c.rounds-test.last after.1 to c.requires.1.0 row refl) in
-    let first = subst (Arrival rs ex from to d) (sym c.label_at.ensures ∙ c.in-Some.is) arr in
+    let first = subst (Arrival rs ex from to d) c.in-Some.is c.earliest_arrival.ensures in
     record { asked = (c.requires.0, (c.requires.1.0, omega arith)); there = first }
 
 pub overflow_sub-d : goal.overflow_sub-d
@@ -111,15 +95,7 @@ overflow_add-d g c =
     let from = c.args.trip.from in
     let to = c.args.trip.to in
     let d = c.departures.d in
-    let some : 0 < c.rounds.k = omega arith in
-    let long : 4096 ≤ length c.rounds.cells = omega arith in
-    let after : SearchedFrom gates ex law rs from d c.rounds-test.cells c.rounds-test.last = elim c.rounds-test.branch [
-      | else-rounds-test w ↦ searched_at gates ex law rs from d c.rounds-test.cells c.rounds.cells c.rounds-test.last c.rounds.last w.cells-is w.last-is (rounds_end gates ex law rs from d c.rounds.k c.rounds.last c.rounds.cells (omega (arith, w.rounds-test.false)) c.rounds.invariant)
-      | then-rounds-test+then-not-told w ↦ searched_at gates ex law rs from d c.rounds-test.cells w.next_row-told.new.cells c.rounds-test.last c.rounds.k w.cells-is w.last-is (rounds_left gates ex law rs from d c.rounds.k c.rounds.last c.rounds.cells w.next_row-told.new.cells w.next_row-told.result some w.rounds-test.true long c.rounds.invariant w.next_row-told.ensures w.if-not-told.true)
-    ] in
-    let row = row_of c.rounds-test.cells c.rounds-test.last to in
-    let arr = arrival gates ex law rs c.args.ahead.now.charted from to d c.if-d-le-LAST_INSTANT.true row (row_best no_later (comes_out ex) (all_turned Along rs) from d c.rounds-test.cells c.rounds-test.last after.1 to c.requires.1.0 row refl) in
-    let first = subst (Arrival rs ex from to d) (sym c.label_at.ensures ∙ c.in-Some.is) arr in
+    let first = subst (Arrival rs ex from to d) c.in-Some.is c.earliest_arrival.ensures in
     let top : c.in-Some.arrival ≤ 20160 = first.within in
     search rules
 
@@ -141,15 +117,7 @@ departures-preserved g c =
     let from = c.args.trip.from in
     let to = c.args.trip.to in
     let d = c.departures.d in
-    let some : 0 < c.rounds.k = omega arith in
-    let long : 4096 ≤ length c.rounds.cells = omega arith in
-    let after : SearchedFrom gates ex law rs from d c.rounds-test.cells c.rounds-test.last = elim c.rounds-test.branch [
-      | else-rounds-test w ↦ searched_at gates ex law rs from d c.rounds-test.cells c.rounds.cells c.rounds-test.last c.rounds.last w.cells-is w.last-is (rounds_end gates ex law rs from d c.rounds.k c.rounds.last c.rounds.cells (omega (arith, w.rounds-test.false)) c.rounds.invariant)
-      | then-rounds-test+then-not-told w ↦ searched_at gates ex law rs from d c.rounds-test.cells w.next_row-told.new.cells c.rounds-test.last c.rounds.k w.cells-is w.last-is (rounds_left gates ex law rs from d c.rounds.k c.rounds.last c.rounds.cells w.next_row-told.new.cells w.next_row-told.result some w.rounds-test.true long c.rounds.invariant w.next_row-told.ensures w.if-not-told.true)
-    ] in
-    let row = row_of c.rounds-test.cells c.rounds-test.last to in
-    let arr = arrival gates ex law rs c.args.ahead.now.charted from to d c.if-d-le-LAST_INSTANT.true row (row_best no_later (comes_out ex) (all_turned Along rs) from d c.rounds-test.cells c.rounds-test.last after.1 to c.requires.1.0 row refl) in
-    let first = subst (Arrival rs ex from to d) (sym c.label_at.ensures ∙ c.in-Some.is) arr in
+    let first = subst (Arrival rs ex from to d) c.in-Some.is c.earliest_arrival.ensures in
     let e = c.in-Some.arrival in
     let time = c.if-arrival-d.time in
     elim c.if-arrival-d.branch [
@@ -188,12 +156,4 @@ returns-in_default g c =
     let from = c.args.trip.from in
     let to = c.args.trip.to in
     let d = c.departures.d in
-    let some : 0 < c.rounds.k = omega arith in
-    let long : 4096 ≤ length c.rounds.cells = omega arith in
-    let after : SearchedFrom gates ex law rs from d c.rounds-test.cells c.rounds-test.last = elim c.rounds-test.branch [
-      | else-rounds-test w ↦ searched_at gates ex law rs from d c.rounds-test.cells c.rounds.cells c.rounds-test.last c.rounds.last w.cells-is w.last-is (rounds_end gates ex law rs from d c.rounds.k c.rounds.last c.rounds.cells (omega (arith, w.rounds-test.false)) c.rounds.invariant)
-      | then-rounds-test+then-not-told w ↦ searched_at gates ex law rs from d c.rounds-test.cells w.next_row-told.new.cells c.rounds-test.last c.rounds.k w.cells-is w.last-is (rounds_left gates ex law rs from d c.rounds.k c.rounds.last c.rounds.cells w.next_row-told.new.cells w.next_row-told.result some w.rounds-test.true long c.rounds.invariant w.next_row-told.ensures w.if-not-told.true)
-    ] in
-    let row = row_of c.rounds-test.cells c.rounds-test.last to in
-    let arr = arrival gates ex law rs c.args.ahead.now.charted from to d c.if-d-le-LAST_INSTANT.true row (row_best no_later (comes_out ex) (all_turned Along rs) from d c.rounds-test.cells c.rounds-test.last after.1 to c.requires.1.0 row refl) in
-    so_none gates ex law rs c.args.ahead.now.charted from to c.args.trip.instant d c.departures.time c.departures.best c.departures.invariant (subst (Arrival rs ex from to d) (sym c.label_at.ensures ∙ c.in_default.is) arr)
+    so_none gates ex law rs c.args.ahead.now.charted from to c.args.trip.instant d c.departures.time c.departures.best c.departures.invariant (subst (Arrival rs ex from to d) c.in_default.is c.earliest_arrival.ensures)
