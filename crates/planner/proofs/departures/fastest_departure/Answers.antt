@@ -1,4 +1,4 @@
-use Rattle.std.proofs.Common.{◌≡◌, ℕ, ◌+◌, ◌-◌, ◌<◌, ◌≤◌, length, Some, Option, sym, subst, arith, rules}
+use Rattle.std.proofs.Common.{◌≡◌, ℕ, ◌+◌, ◌-◌, ◌<◌, ◌≤◌, length, Some, Option, sym, subst, arith}
 use Rattle.planner.specs.Departures.{HeldSoFar}
 use Rattle.planner.proofs.Departing.{SearchedFrom, searched_at, rounds_begin, rounds_end, rounds_more, rounds_left, so_faster, so_slower, so_past, so_none}
 use Rattle.planner.proofs.departures.fastest_departure.Goals as goal
@@ -40,17 +40,8 @@ earliest_arrival-requires g c =
     ] in
     record { asked = (c.requires.1.0, c.if-d-le-LAST_INSTANT.true); searched = after }
 
-pub overflow_sub-arrival : goal.overflow_sub-arrival
-overflow_sub-arrival g c = c.in-Some.ensures.later
-
-pub leaving_for-leaves-requires : goal.leaving_for-leaves-requires
-leaving_for-leaves-requires g c = record { asked = (c.requires.0, (c.requires.1.0, omega arith)); there = c.in-Some.ensures }
-
 pub overflow_sub-d : goal.overflow_sub-d
 overflow_sub-d g c = elim c.if-arrival-d.branch [ then-arrival-d w ↦ omega (arith, w.time-is) | else-arrival-d w ↦ omega (arith, w.time-is, w.if-arrival-d.false) ]
-
-pub overflow_add-d : goal.overflow_add-d
-overflow_add-d g c = let top : c.in-Some.arrival ≤ 20160 = c.in-Some.ensures.within in search rules
 
 pub departures-smaller : goal.departures-smaller
 departures-smaller g c =
