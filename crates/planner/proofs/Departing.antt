@@ -1,6 +1,7 @@
 -- Lemmas: departures, the arrivals that a search gives them, and which of them is the fastest.
-use Rattle.std.proofs.Common.{◌≡◌, ℕ, zero, suc, ◌+◌, ◌-◌, ◌*◌, ◌<◌, ◌≤◌, Bool, true, false, ◌&&◌, ltb, leb, List, [], ◌∷◌, ◌++◌, length, get_or, is_some, Some, None, Option, sym, refl, ap, ◌∙◌, subst, ⊎_elim, arith}
+use Rattle.std.proofs.Common.{◌≡◌, ℕ, ◌+◌, ◌-◌, ◌*◌, ◌<◌, ◌≤◌, Bool, true, false, ◌&&◌, ltb, leb, List, [], ◌∷◌, ◌++◌, length, get_or, is_some, Some, None, Option, sym, refl, ap, ◌∙◌, subst, ⊎_elim, arith}
 use Rattle.std.proofs.lemmas.Bool.{leb-true, le-leb, lt-ltb, and_from, cases_lt}
+use Rattle.std.proofs.lemmas.Option.{slice_get-get_or}
 use Rattle.std.specs.List.{slice_get, ContainsAt as Has}
 use Rattle.books.specs.Meaning.{Exits, Lawful, first_open, last_open}
 use Rattle.books.specs.Options.{none_not_some, some_one}
@@ -97,12 +98,7 @@ led_some goes g None z h = none_not_some None z refl h
 led_some goes g (Some y) z h = (y, refl, h)
 
 has_nth : {X : Type 0} (xs : List X) (x : X) → Has xs x → (n : ℕ) × (slice_get xs n ≡ Some x)
-has_nth xs x h = (h.0, at xs h.0 h.1 (h.2 x))
-  where
-    at : {X : Type 0} {x : X} (ys : List X) (n : ℕ) → n < length ys → get_or ys n x ≡ x → slice_get ys n ≡ Some x
-    at [] n l e = absurd (omega arith)
-    at (y ∷ ys) zero l e = ap Some e
-    at (y ∷ ys) (suc n) l e = at ys n (omega arith) e
+has_nth xs x h = (h.0, slice_get-get_or xs h.0 x h.1 ∙ ap Some (h.2 x))
 
 -- ---- the legs of a walk
 walk_legs : (rs : List Reach) (ex : Exits) (a x : ℕ) (ws : List Reach) (b z : ℕ) → Leads (all_turned Along rs) a ws b → led (comes_out ex) x ws ≡ Some z → (legs : List Leg) × AtFirst rs ex a x legs b z

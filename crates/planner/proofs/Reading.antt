@@ -1,6 +1,8 @@
 -- Lemmas: one step back through the rows of a search.
-use Rattle.std.proofs.Common.{◌≡◌, ℕ, zero, suc, ◌-◌, ◌<◌, List, [], ◌∷◌, length, get_or, Some, None, Option, sym, refl, ap, ◌∙◌, subst, arith}
+use Rattle.std.proofs.Common.{◌≡◌, ℕ, zero, suc, ◌-◌, ◌<◌, List, [], ◌∷◌, get_or, Some, None, Option, sym, refl, ap, ◌∙◌, subst, arith}
+use Rattle.std.proofs.lemmas.Option.{get_or_from_slice_get, slice_get_within, slice_get-map}
 use Rattle.std.specs.List.{slice_get}
+use Rattle.std.specs.Option.{option_map}
 use Rattle.books.specs.Meaning.{Exits, Lawful}
 use Rattle.books.specs.Options.{none_not_some, some_one}
 use Rattle.search.specs.Reaches.{turned, all_turned}
@@ -20,14 +22,7 @@ turned_at d (r ∷ rs) zero e h = (r, refl, some_one (Some (turned d r)) (turned
 turned_at d (r ∷ rs) (suc n) e h = turned_at d rs n e h
 
 pub at_turned : (d : Direction) (rs : List Reach) (n : ℕ) (r : Reach) → slice_get rs n ≡ Some r → slice_get (all_turned d rs) n ≡ Some (turned d r)
-at_turned d [] n r h = none_not_some None r refl h
-at_turned d (q ∷ rs) zero r h = ap (λ (x : Reach). Some (turned d x)) (some_one (Some q) q r refl h)
-at_turned d (q ∷ rs) (suc n) r h = at_turned d rs n r h
-
-pub nth_getD : {X : Type 0} (xs : List X) (n : ℕ) (x : X) → slice_get xs n ≡ Some x → (n < length xs) × ((d : X) → get_or xs n d ≡ x)
-nth_getD [] n x h = none_not_some None x refl h
-nth_getD (y ∷ xs) zero x h = (omega arith, λ d. some_one (Some y) y x refl h)
-nth_getD (y ∷ xs) (suc n) x h = let r = nth_getD xs n x h in (omega (arith, r.0), r.1)
+at_turned d rs n r h = slice_get-map (turned d) rs n ∙ ap (option_map (turned d)) h
 
 same_gate : (e : Direction) (r : Reach) → (turned e r).gate ≡ r.gate
 same_gate Along r = refl
@@ -46,8 +41,7 @@ module _ (gates : ℕ) (ex : Exits) (law : Lawful gates ex) (d : Direction) (rs 
       let s = step (laws_of gates ex law d) (antisymmetric_of d) es cells at x r.last r.low r.long r.rows i u y r.within r.place r.stands r.least in
       let n = s.number in
       let t = turned_at d rs n s.by s.is in
-      let g = nth_getD rs n t.0 t.1 in
-      let read : get_or rs n blank ≡ t.0 = g.1 blank in
+      let read : get_or rs n blank ≡ t.0 = get_or_from_slice_get rs n t.0 blank t.1 in
       let turn : turned d (get_or rs n blank) ≡ s.by = ap (turned d) read ∙ t.2 in
       let back : i ≡ suc i - 1 = omega arith in
       let start : s.by.from ≡ (turned d (get_or rs n blank)).from = ap (λ (e : Reach). e.from) (sym turn) in
@@ -60,7 +54,7 @@ module _ (gates : ℕ) (ex : Exits) (law : Lawful gates ex) (d : Direction) (rs 
         n,
         s.found,
         record {
-          low = g.0;
+          low = slice_get_within rs n t.0 t.1;
           is = t.1 ∙ ap Some (sym read);
           ends = ap (λ (e : Reach). e.to) turn ∙ s.to;
           starts = before.place;

@@ -1,5 +1,6 @@
 -- Lemmas: journeys that are ready at an instant, and walks along the reaches.
 use Rattle.std.proofs.Common.{◌≡◌, ℕ, suc, ◌+◌, ◌≤◌, List, [], ◌∷◌, ◌++◌, map, length, Some, Option, sym, refl, ap, ◌∙◌, subst, arith}
+use Rattle.std.proofs.lemmas.Option.{get_or_from_slice_get, slice_get_within}
 use Rattle.std.specs.List.{slice_get, ContainsAt as Has}
 use Rattle.books.specs.Meaning.{Exits, Lawful, first_open}
 use Rattle.search.specs.Reaches.{turned, all_turned}
@@ -14,11 +15,13 @@ use Rattle.planner.specs.Reckonings.{comes_out, comes_out_by, first_least}
 use Rattle.planner.specs.Routes.{then, leg_before, along, departs, arrives}
 use Rattle.planner.specs.Ways.{AtFirst}
 use Rattle.planner.specs.declared.legs.Leg.{Leg}
-use Rattle.planner.proofs.Reading.{at_turned, nth_getD}
+use Rattle.planner.proofs.Reading.{at_turned}
 
 -- a laid reach is among the turned ones
 pub has_turned : (d : Direction) (rs : List Reach) (n : ℕ) (r : Reach) → slice_get rs n ≡ Some r → Has (all_turned d rs) (turned d r)
-has_turned d rs n r h = let g = nth_getD (all_turned d rs) n (turned d r) (at_turned d rs n r h) in (n, g.0, g.1)
+has_turned d rs n r h =
+    let at = at_turned d rs n r h in
+    (n, slice_get_within (all_turned d rs) n (turned d r) at, λ e. get_or_from_slice_get (all_turned d rs) n (turned d r) e at)
 
 -- the legs that set out at t and come after a leg arrive where those after its exit do
 pub after_leg : (t : ℕ) (l : Leg) (ls : List Leg) → arrives t (l ∷ ls) ≡ arrives l.exit ls

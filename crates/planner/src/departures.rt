@@ -1,6 +1,10 @@
 // The fastest journey: departures outside, rounds of reaches inside.
 ghost use Rattle.std.specs.Prelude.{◌≡◌, ◌<◌, ◌≤◌, length};
-ghost use Rattle.planner.specs.Departures.{ArrivesFirst, LeavesLast, FastestChoice};
+ghost use Rattle.search.specs.Reaches.{all_turned};
+ghost use Rattle.search.specs.Walks.{Unbeaten};
+ghost use Rattle.search.specs.declared.reaches.Direction.TheVariants.{Along};
+ghost use Rattle.planner.specs.Departures.{ArrivesFirst, Arrival, FastestChoice};
+ghost use Rattle.planner.specs.Reckonings.{no_later, comes_out};
 
 use crate::reckonings::{EarliestArrival, LatestDeparture};
 use crate::trips::Trip;
@@ -24,6 +28,20 @@ fn leaving_for<B: Book>(
     let due = Trip { instant: e, ..trip };
     let last = back.fill(due, cells);
     label_at(cells, last, trip.from).unwrap()
+}
+
+// The earliest arrival, in the last row of a search from where the trip starts.
+fn earliest_arrival<B: Book>(
+    ahead: &Course<EarliestArrival<B>>,
+    trip: Trip,
+    cells: &[Option<Instant>],
+    last: usize,
+) -> Option<Instant>
+    requires asked { (trip.to < 64) × (trip.instant ≤ 20160) }
+    requires searched { (last ≤ 63) × Unbeaten no_later (comes_out (B.Book.exits ahead.now.by.now.book.now)) (all_turned Along ahead.now.reaches.now) trip.from trip.instant cells.now last }
+    ensures { Arrival ahead.now.reaches.now (B.Book.exits ahead.now.by.now.book.now) trip.from trip.to trip.instant result }
+{
+    label_at(cells, last, trip.to)
 }
 
 // The departure of the fastest journey that is ready for the trip; of equally fast ones, the earliest.
@@ -51,6 +69,7 @@ pub(crate) fn fastest_departure<B: Book>(
     let mut time = LAST_INSTANT + 1;
     let mut d = trip.instant;
     'departures: while time > 0 && d <= LAST_INSTANT {
+        let now = Trip { instant: d, ..trip };
         let _ = first_row(cells, trip.from, d);
         let mut last = 0;
         'rounds: for k in 1..64 {
@@ -60,11 +79,11 @@ pub(crate) fn fastest_departure<B: Book>(
                 break 'rounds;
             }
         }
-        let Some(arrival) = label_at(cells, last, trip.to) else {
+        let Some(arrival) = earliest_arrival(ahead, now, cells, last) else {
             break 'departures;
         };
         if arrival - d < time {
-            let leaves = leaving_for(&back, Trip { instant: d, ..trip }, arrival, cells);
+            let leaves = leaving_for(&back, now, arrival, cells);
             best = Some(leaves);
             time = arrival - leaves;
         }

@@ -1,10 +1,6 @@
-use Rattle.std.proofs.Common.{◌≡◌, ℕ, ◌+◌, ◌-◌, ◌<◌, ◌≤◌, length, Some, Option, sym, refl, ◌∙◌, subst, arith, rules}
-use Rattle.search.specs.Reaches.{all_turned}
-use Rattle.search.specs.WayBack.{row_of}
-use Rattle.search.specs.declared.reaches.Direction.TheVariants.{Along}
-use Rattle.planner.specs.Departures.{Arrival, HeldSoFar}
-use Rattle.planner.specs.Reckonings.{no_later, comes_out}
-use Rattle.planner.proofs.Departing.{SearchedFrom, searched_at, rounds_begin, rounds_end, rounds_more, rounds_left, row_best, arrival, so_faster, so_slower, so_past, so_none}
+use Rattle.std.proofs.Common.{◌≡◌, ℕ, ◌+◌, ◌-◌, ◌<◌, ◌≤◌, length, Some, Option, sym, subst, arith}
+use Rattle.planner.specs.Departures.{HeldSoFar}
+use Rattle.planner.proofs.Departing.{SearchedFrom, searched_at, rounds_begin, rounds_end, rounds_more, rounds_left, so_faster, so_slower, so_past, so_none}
 use Rattle.planner.proofs.departures.fastest_departure.Goals as goal
 use Rattle.planner.proofs.departures.fastest_departure.Goals.{else-rounds-test, then-rounds-test+then-not-told, then-arrival-d, else-arrival-d}
 
@@ -13,40 +9,28 @@ invariant_of-back g c = record { few = c.args.ahead.now.few; charted = c.args.ah
 
 pub rounds-init : goal.rounds-init
 rounds-init g c =
-    let b = c.args.ahead.now.by.now.book.now in
-    let gates = g.B.Book.gates b in
-    let ex = g.B.Book.exits b in
-    let law = g.B.Book.lawful b in
-    let rs = c.args.ahead.now.reaches.now in
-    let from = c.args.trip.from in
-    let to = c.args.trip.to in
-    let d = c.departures.d in
+    let s = c.args.ahead.now in
+    let b = s.by.now.book.now in
     let long : 4096 ≤ length c.departures.cells = omega arith in
-    rounds_begin gates ex law rs from d c.departures.cells c.first_row.new.cells c.first_row.result long c.first_row.ensures
+    rounds_begin (g.B.Book.gates b) (g.B.Book.exits b) (g.B.Book.lawful b) s.reaches.now c.args.trip.from c.departures.d c.departures.cells c.first_row.new.cells c.first_row.result long c.first_row.ensures
 
 pub rounds-preserved : goal.rounds-preserved
 rounds-preserved g c =
-    let b = c.args.ahead.now.by.now.book.now in
-    let gates = g.B.Book.gates b in
-    let ex = g.B.Book.exits b in
-    let law = g.B.Book.lawful b in
-    let rs = c.args.ahead.now.reaches.now in
-    let from = c.args.trip.from in
-    let to = c.args.trip.to in
-    let d = c.departures.d in
+    let s = c.args.ahead.now in
+    let b = s.by.now.book.now in
     let some : 0 < c.rounds.k = omega arith in
     let long : 4096 ≤ length c.rounds.cells = omega arith in
-    rounds_more gates ex law rs from d c.rounds.k c.rounds.last c.rounds.cells c.next_row-told.new.cells c.next_row-told.result some c.rounds-test.true long c.rounds.invariant c.next_row-told.ensures c.if-not-told.false
+    rounds_more (g.B.Book.gates b) (g.B.Book.exits b) (g.B.Book.lawful b) s.reaches.now c.args.trip.from c.departures.d c.rounds.k c.rounds.last c.rounds.cells c.next_row-told.new.cells c.next_row-told.result some c.rounds-test.true long c.rounds.invariant c.next_row-told.ensures c.if-not-told.false
 
-pub label_at-requires : goal.label_at-requires
-label_at-requires g c =
-    let b = c.args.ahead.now.by.now.book.now in
+pub earliest_arrival-requires : goal.earliest_arrival-requires
+earliest_arrival-requires g c =
+    let s = c.args.ahead.now in
+    let b = s.by.now.book.now in
     let gates = g.B.Book.gates b in
     let ex = g.B.Book.exits b in
     let law = g.B.Book.lawful b in
-    let rs = c.args.ahead.now.reaches.now in
+    let rs = s.reaches.now in
     let from = c.args.trip.from in
-    let to = c.args.trip.to in
     let d = c.departures.d in
     let some : 0 < c.rounds.k = omega arith in
     let long : 4096 ≤ length c.rounds.cells = omega arith in
@@ -54,74 +38,10 @@ label_at-requires g c =
       | else-rounds-test w ↦ searched_at gates ex law rs from d c.rounds-test.cells c.rounds.cells c.rounds-test.last c.rounds.last w.cells-is w.last-is (rounds_end gates ex law rs from d c.rounds.k c.rounds.last c.rounds.cells (omega (arith, w.rounds-test.false)) c.rounds.invariant)
       | then-rounds-test+then-not-told w ↦ searched_at gates ex law rs from d c.rounds-test.cells w.next_row-told.new.cells c.rounds-test.last c.rounds.k w.cells-is w.last-is (rounds_left gates ex law rs from d c.rounds.k c.rounds.last c.rounds.cells w.next_row-told.new.cells w.next_row-told.result some w.rounds-test.true long c.rounds.invariant w.next_row-told.ensures w.if-not-told.true)
     ] in
-    omega (arith, after.0)
-
-pub overflow_sub-arrival : goal.overflow_sub-arrival
-overflow_sub-arrival g c =
-    let b = c.args.ahead.now.by.now.book.now in
-    let gates = g.B.Book.gates b in
-    let ex = g.B.Book.exits b in
-    let law = g.B.Book.lawful b in
-    let rs = c.args.ahead.now.reaches.now in
-    let from = c.args.trip.from in
-    let to = c.args.trip.to in
-    let d = c.departures.d in
-    let some : 0 < c.rounds.k = omega arith in
-    let long : 4096 ≤ length c.rounds.cells = omega arith in
-    let after : SearchedFrom gates ex law rs from d c.rounds-test.cells c.rounds-test.last = elim c.rounds-test.branch [
-      | else-rounds-test w ↦ searched_at gates ex law rs from d c.rounds-test.cells c.rounds.cells c.rounds-test.last c.rounds.last w.cells-is w.last-is (rounds_end gates ex law rs from d c.rounds.k c.rounds.last c.rounds.cells (omega (arith, w.rounds-test.false)) c.rounds.invariant)
-      | then-rounds-test+then-not-told w ↦ searched_at gates ex law rs from d c.rounds-test.cells w.next_row-told.new.cells c.rounds-test.last c.rounds.k w.cells-is w.last-is (rounds_left gates ex law rs from d c.rounds.k c.rounds.last c.rounds.cells w.next_row-told.new.cells w.next_row-told.result some w.rounds-test.true long c.rounds.invariant w.next_row-told.ensures w.if-not-told.true)
-    ] in
-    let row = row_of c.rounds-test.cells c.rounds-test.last to in
-    let arr = arrival gates ex law rs c.args.ahead.now.charted from to d c.if-d-le-LAST_INSTANT.true row (row_best no_later (comes_out ex) (all_turned Along rs) from d c.rounds-test.cells c.rounds-test.last after.1 to c.requires.1.0 row refl) in
-    let first = subst (Arrival rs ex from to d) (sym c.label_at.ensures ∙ c.in-Some.is) arr in
-    first.later
-
-pub leaving_for-leaves-requires : goal.leaving_for-leaves-requires
-leaving_for-leaves-requires g c =
-    let b = c.args.ahead.now.by.now.book.now in
-    let gates = g.B.Book.gates b in
-    let ex = g.B.Book.exits b in
-    let law = g.B.Book.lawful b in
-    let rs = c.args.ahead.now.reaches.now in
-    let from = c.args.trip.from in
-    let to = c.args.trip.to in
-    let d = c.departures.d in
-    let some : 0 < c.rounds.k = omega arith in
-    let long : 4096 ≤ length c.rounds.cells = omega arith in
-    let after : SearchedFrom gates ex law rs from d c.rounds-test.cells c.rounds-test.last = elim c.rounds-test.branch [
-      | else-rounds-test w ↦ searched_at gates ex law rs from d c.rounds-test.cells c.rounds.cells c.rounds-test.last c.rounds.last w.cells-is w.last-is (rounds_end gates ex law rs from d c.rounds.k c.rounds.last c.rounds.cells (omega (arith, w.rounds-test.false)) c.rounds.invariant)
-      | then-rounds-test+then-not-told w ↦ searched_at gates ex law rs from d c.rounds-test.cells w.next_row-told.new.cells c.rounds-test.last c.rounds.k w.cells-is w.last-is (rounds_left gates ex law rs from d c.rounds.k c.rounds.last c.rounds.cells w.next_row-told.new.cells w.next_row-told.result some w.rounds-test.true long c.rounds.invariant w.next_row-told.ensures w.if-not-told.true)
-    ] in
-    let row = row_of c.rounds-test.cells c.rounds-test.last to in
-    let arr = arrival gates ex law rs c.args.ahead.now.charted from to d c.if-d-le-LAST_INSTANT.true row (row_best no_later (comes_out ex) (all_turned Along rs) from d c.rounds-test.cells c.rounds-test.last after.1 to c.requires.1.0 row refl) in
-    let first = subst (Arrival rs ex from to d) (sym c.label_at.ensures ∙ c.in-Some.is) arr in
-    record { asked = (c.requires.0, (c.requires.1.0, omega arith)); there = first }
+    record { asked = (c.requires.1.0, c.if-d-le-LAST_INSTANT.true); searched = after }
 
 pub overflow_sub-d : goal.overflow_sub-d
 overflow_sub-d g c = elim c.if-arrival-d.branch [ then-arrival-d w ↦ omega (arith, w.time-is) | else-arrival-d w ↦ omega (arith, w.time-is, w.if-arrival-d.false) ]
-
-pub overflow_add-d : goal.overflow_add-d
-overflow_add-d g c =
-    let b = c.args.ahead.now.by.now.book.now in
-    let gates = g.B.Book.gates b in
-    let ex = g.B.Book.exits b in
-    let law = g.B.Book.lawful b in
-    let rs = c.args.ahead.now.reaches.now in
-    let from = c.args.trip.from in
-    let to = c.args.trip.to in
-    let d = c.departures.d in
-    let some : 0 < c.rounds.k = omega arith in
-    let long : 4096 ≤ length c.rounds.cells = omega arith in
-    let after : SearchedFrom gates ex law rs from d c.rounds-test.cells c.rounds-test.last = elim c.rounds-test.branch [
-      | else-rounds-test w ↦ searched_at gates ex law rs from d c.rounds-test.cells c.rounds.cells c.rounds-test.last c.rounds.last w.cells-is w.last-is (rounds_end gates ex law rs from d c.rounds.k c.rounds.last c.rounds.cells (omega (arith, w.rounds-test.false)) c.rounds.invariant)
-      | then-rounds-test+then-not-told w ↦ searched_at gates ex law rs from d c.rounds-test.cells w.next_row-told.new.cells c.rounds-test.last c.rounds.k w.cells-is w.last-is (rounds_left gates ex law rs from d c.rounds.k c.rounds.last c.rounds.cells w.next_row-told.new.cells w.next_row-told.result some w.rounds-test.true long c.rounds.invariant w.next_row-told.ensures w.if-not-told.true)
-    ] in
-    let row = row_of c.rounds-test.cells c.rounds-test.last to in
-    let arr = arrival gates ex law rs c.args.ahead.now.charted from to d c.if-d-le-LAST_INSTANT.true row (row_best no_later (comes_out ex) (all_turned Along rs) from d c.rounds-test.cells c.rounds-test.last after.1 to c.requires.1.0 row refl) in
-    let first = subst (Arrival rs ex from to d) (sym c.label_at.ensures ∙ c.in-Some.is) arr in
-    let top : c.in-Some.arrival ≤ 20160 = first.within in
-    search rules
 
 pub departures-smaller : goal.departures-smaller
 departures-smaller g c =
@@ -133,67 +53,40 @@ departures-smaller g c =
 
 pub departures-preserved : goal.departures-preserved
 departures-preserved g c =
-    let b = c.args.ahead.now.by.now.book.now in
+    let s = c.args.ahead.now in
+    let b = s.by.now.book.now in
     let gates = g.B.Book.gates b in
     let ex = g.B.Book.exits b in
     let law = g.B.Book.lawful b in
-    let rs = c.args.ahead.now.reaches.now in
-    let from = c.args.trip.from in
-    let to = c.args.trip.to in
+    let rs = s.reaches.now in
+    let t = c.args.trip in
     let d = c.departures.d in
-    let some : 0 < c.rounds.k = omega arith in
-    let long : 4096 ≤ length c.rounds.cells = omega arith in
-    let after : SearchedFrom gates ex law rs from d c.rounds-test.cells c.rounds-test.last = elim c.rounds-test.branch [
-      | else-rounds-test w ↦ searched_at gates ex law rs from d c.rounds-test.cells c.rounds.cells c.rounds-test.last c.rounds.last w.cells-is w.last-is (rounds_end gates ex law rs from d c.rounds.k c.rounds.last c.rounds.cells (omega (arith, w.rounds-test.false)) c.rounds.invariant)
-      | then-rounds-test+then-not-told w ↦ searched_at gates ex law rs from d c.rounds-test.cells w.next_row-told.new.cells c.rounds-test.last c.rounds.k w.cells-is w.last-is (rounds_left gates ex law rs from d c.rounds.k c.rounds.last c.rounds.cells w.next_row-told.new.cells w.next_row-told.result some w.rounds-test.true long c.rounds.invariant w.next_row-told.ensures w.if-not-told.true)
-    ] in
-    let row = row_of c.rounds-test.cells c.rounds-test.last to in
-    let arr = arrival gates ex law rs c.args.ahead.now.charted from to d c.if-d-le-LAST_INSTANT.true row (row_best no_later (comes_out ex) (all_turned Along rs) from d c.rounds-test.cells c.rounds-test.last after.1 to c.requires.1.0 row refl) in
-    let first = subst (Arrival rs ex from to d) (sym c.label_at.ensures ∙ c.in-Some.is) arr in
     let e = c.in-Some.arrival in
     let time = c.if-arrival-d.time in
     elim c.if-arrival-d.branch [
       | then-arrival-d w ↦
           let r = w.leaving_for-leaves.result in
           let step : w.leaving_for-leaves.result + 1 ≡ c.in-Some.arrival - c.if-arrival-d.time + 1 = omega (arith, w.time-is, w.leaving_for-leaves.ensures.first.later) in
-          let held = so_faster gates ex law rs c.args.ahead.now.charted from to c.args.trip.instant d c.departures.time c.departures.best c.departures.invariant e first w.if-arrival-d.true r w.leaving_for-leaves.ensures.since w.leaving_for-leaves.ensures.first in
-          subst (λ (o : Option ℕ). HeldSoFar rs ex from to c.args.trip.instant (e - time + 1) o time) (sym w.best-is)
-          (subst (λ (m : ℕ). HeldSoFar rs ex from to c.args.trip.instant m (Some r) time) step
-          (subst (λ (m : ℕ). HeldSoFar rs ex from to c.args.trip.instant (r + 1) (Some r) m) (sym w.time-is) held))
+          let held = so_faster gates ex law rs s.charted t.from t.to t.instant d c.departures.time c.departures.best c.departures.invariant e c.in-Some.ensures w.if-arrival-d.true r w.leaving_for-leaves.ensures.since w.leaving_for-leaves.ensures.first in
+          subst (λ (o : Option ℕ). HeldSoFar rs ex t.from t.to t.instant (e - time + 1) o time) (sym w.best-is)
+          (subst (λ (m : ℕ). HeldSoFar rs ex t.from t.to t.instant m (Some r) time) step
+          (subst (λ (m : ℕ). HeldSoFar rs ex t.from t.to t.instant (r + 1) (Some r) m) (sym w.time-is) held))
       | else-arrival-d w ↦
-          subst (λ (o : Option ℕ). HeldSoFar rs ex from to c.args.trip.instant (e - time + 1) o time) (sym w.best-is)
-          (subst (λ (m : ℕ). HeldSoFar rs ex from to c.args.trip.instant (e - m + 1) c.departures.best m) (sym w.time-is)
-          (so_slower gates ex law rs c.args.ahead.now.charted from to c.args.trip.instant d c.departures.time c.departures.best c.departures.invariant e first w.if-arrival-d.false))
+          subst (λ (o : Option ℕ). HeldSoFar rs ex t.from t.to t.instant (e - time + 1) o time) (sym w.best-is)
+          (subst (λ (m : ℕ). HeldSoFar rs ex t.from t.to t.instant (e - m + 1) c.departures.best m) (sym w.time-is)
+          (so_slower gates ex law rs s.charted t.from t.to t.instant d c.departures.time c.departures.best c.departures.invariant e c.in-Some.ensures w.if-arrival-d.false))
     ]
 
 pub returns-else-d-le-LAST_INSTANT : goal.returns-else-d-le-LAST_INSTANT
 returns-else-d-le-LAST_INSTANT g c =
-    let b = c.args.ahead.now.by.now.book.now in
-    let gates = g.B.Book.gates b in
-    let ex = g.B.Book.exits b in
-    let law = g.B.Book.lawful b in
-    let rs = c.args.ahead.now.reaches.now in
-    let from = c.args.trip.from in
-    let to = c.args.trip.to in
-    let d = c.departures.d in
-    so_past gates ex law rs c.args.ahead.now.charted from to c.args.trip.instant d c.departures.time c.departures.best c.requires.1.1.0 c.departures.invariant c.if-d-le-LAST_INSTANT.false
+    let s = c.args.ahead.now in
+    let b = s.by.now.book.now in
+    let t = c.args.trip in
+    so_past (g.B.Book.gates b) (g.B.Book.exits b) (g.B.Book.lawful b) s.reaches.now s.charted t.from t.to t.instant c.departures.d c.departures.time c.departures.best c.requires.1.1.0 c.departures.invariant c.if-d-le-LAST_INSTANT.false
 
 pub returns-in_default : goal.returns-in_default
 returns-in_default g c =
-    let b = c.args.ahead.now.by.now.book.now in
-    let gates = g.B.Book.gates b in
-    let ex = g.B.Book.exits b in
-    let law = g.B.Book.lawful b in
-    let rs = c.args.ahead.now.reaches.now in
-    let from = c.args.trip.from in
-    let to = c.args.trip.to in
-    let d = c.departures.d in
-    let some : 0 < c.rounds.k = omega arith in
-    let long : 4096 ≤ length c.rounds.cells = omega arith in
-    let after : SearchedFrom gates ex law rs from d c.rounds-test.cells c.rounds-test.last = elim c.rounds-test.branch [
-      | else-rounds-test w ↦ searched_at gates ex law rs from d c.rounds-test.cells c.rounds.cells c.rounds-test.last c.rounds.last w.cells-is w.last-is (rounds_end gates ex law rs from d c.rounds.k c.rounds.last c.rounds.cells (omega (arith, w.rounds-test.false)) c.rounds.invariant)
-      | then-rounds-test+then-not-told w ↦ searched_at gates ex law rs from d c.rounds-test.cells w.next_row-told.new.cells c.rounds-test.last c.rounds.k w.cells-is w.last-is (rounds_left gates ex law rs from d c.rounds.k c.rounds.last c.rounds.cells w.next_row-told.new.cells w.next_row-told.result some w.rounds-test.true long c.rounds.invariant w.next_row-told.ensures w.if-not-told.true)
-    ] in
-    let row = row_of c.rounds-test.cells c.rounds-test.last to in
-    let arr = arrival gates ex law rs c.args.ahead.now.charted from to d c.if-d-le-LAST_INSTANT.true row (row_best no_later (comes_out ex) (all_turned Along rs) from d c.rounds-test.cells c.rounds-test.last after.1 to c.requires.1.0 row refl) in
-    so_none gates ex law rs c.args.ahead.now.charted from to c.args.trip.instant d c.departures.time c.departures.best c.departures.invariant (subst (Arrival rs ex from to d) (sym c.label_at.ensures ∙ c.in_default.is) arr)
+    let s = c.args.ahead.now in
+    let b = s.by.now.book.now in
+    let t = c.args.trip in
+    so_none (g.B.Book.gates b) (g.B.Book.exits b) (g.B.Book.lawful b) s.reaches.now s.charted t.from t.to t.instant c.departures.d c.departures.time c.departures.best c.departures.invariant c.in_default.ensures

@@ -11,9 +11,6 @@ offset_bounds-self-number g c =
     let low : c.number-number.result < length c.args.self.now.reaches.now = (c.number-number.ensures r.0 r.1 r.2 r.3).low in
     search rules
 
-pub label_at-requires : goal.label_at-requires
-label_at-requires g c = let r = c.requires.reached in omega (arith, (c.number-number.ensures r.0 r.1 r.2 r.3).row)
-
 pub unwrap-here-requires : goal.unwrap-here-requires
 unwrap-here-requires g c =
     let r = c.requires.reached in
