@@ -7,9 +7,11 @@ use Rattle.std.proofs.lemmas.Bool.Decides.{nat_tests}
 use Rattle.books.specs.Meaning.{Exits, Lawful, first_open, last_open, LeastOpen, GreatestOut}
 use Rattle.books.specs.Options.{option_cases, none_not_some}
 use Rattle.books.specs.Scans.{InTime, lawful_in_time, first_is, first_found, last_is, last_found}
-use Rattle.layers.specs.Notices.{clears, all_clear, let_by, hindering, noticed_exits}
+use Rattle.layers.specs.Notices.{clears, all_clear, let_by, hindering, noticed_exits, answer_of, past}
 use Rattle.layers.specs.NoticeLaws.{let_by_only, noticed_lawful}
 use Rattle.layers.specs.declared.notices.Notice.{Notice}
+use Rattle.layers.specs.declared.notices.toward.Toward.{Toward}
+use Rattle.layers.specs.declared.notices.toward.Toward.TheVariants.{Later, Earlier}
 
 -- ---- counting the notices that pass a test, where another test holds of more
 module _ (p q : Notice → Bool) (more : (n : Notice) → p n ≡ true → q n ≡ true) where
@@ -50,17 +52,29 @@ hindered (m ∷ ns) g s e n h =
     subst (Hinders (m ∷ ns) g s e) same (record { meets = f; stops = λ s' e' f'. and_left (clears g s' e' m) (all_clear ns g s' e') f'; counts = λ p q more f' t. count_more p q more m ns f' t }))
     (cases_Bool (clears g s e m))
 
--- ---- those that end by an instant, and those that begin at it or after
-abbrev pub ended : ℕ → Notice → Bool
-ended from n = leb n.end from
+-- ---- each way
+-- the notices that are past where a gate is asked at an instant: those that end by it, or begin at it or after
+abbrev pub passed : Toward → ℕ → Notice → Bool
+passed Later z n = leb n.end z
+passed Earlier z n = leb z n.begin
 
-abbrev pub to_begin : ℕ → Notice → Bool
-to_begin by n = leb by n.begin
+-- the answer in plain words
+abbrev Answers : Toward → (ℕ → Option ℕ) → ℕ → Option (ℕ × ℕ) → Type 0
+Answers Later y z r = LeastOpen y z r
+Answers Earlier y z r = GreatestOut y z r
 
--- Asking y at z answers what asking it at t does, and so many notices are passed by then.
-pub record Kept {A : Type 0} (answer : ℕ → A) (passed : ℕ → Notice → Bool) (ns : List Notice) (t z k : ℕ) : Type 0 where
-  pub same : answer z ≡ answer t
-  pub steps : k ≤ count_by (passed z) ns
+answered : (d : Toward) (y : ℕ → Option ℕ) → InTime y → (z : ℕ) → Answers d y z (answer_of d y z)
+answered Later y timely z = first_found y timely z
+answered Earlier y timely z = last_found y timely z
+
+answer_is : (d : Toward) (y : ℕ → Option ℕ) → InTime y → (z : ℕ) (r : Option (ℕ × ℕ)) → Answers d y z r → r ≡ answer_of d y z
+answer_is Later y timely z r h = first_is y timely z r h
+answer_is Earlier y timely z r h = last_is y timely z r h
+
+-- Asking y at z answers what asking it at t does, and so many notices are past by then.
+pub record Kept (d : Toward) (y : ℕ → Option ℕ) (ns : List Notice) (t z k : ℕ) : Type 0 where
+  pub same : answer_of d y z ≡ answer_of d y t
+  pub steps : k ≤ count_by (passed d z) ns
 
 -- ---- what an answer from a later instant, or by an earlier one, says from or by z
 least_sooner : (y : ℕ → Option ℕ) (z w : ℕ) → z ≤ w → ((k : ℕ) → z ≤ k → k < w → y k ≡ None) → (r : Option (ℕ × ℕ)) → LeastOpen y w r → LeastOpen y z r
@@ -97,70 +111,81 @@ module _ (ns : List Notice) (gates : ℕ) (exits : Exits) (law : Lawful gates ex
   above_clear : (s e : ℕ) → x s ≡ Some e → None ≡ hindering ns g s e → above s ≡ Some e
   above_clear s e h c = ap (let_by ns g s) h ∙ rw (unhindered ns g s e (sym c)) refl
 
-  -- ---- forwards
-  module _ (t z k : ℕ) (kept : Kept (first_open above) ended ns t z k) where
-    pub first_nothing : None ≡ first_open x z → None ≡ first_open above t
-    first_nothing asked =
-        let none : LeastOpen x z None = subst (LeastOpen x z) (sym asked) (first_found x timely z) in
-        first_is above above_timely z None (λ j lo. above_none j (none j lo)) ∙ kept.same
+  -- what is asked below answers above as well: where nothing is found, and where the passage is clear
+  nothing_above : (d : Toward) (z : ℕ) → Answers d x z None → Answers d above z None
+  nothing_above Later z h = λ j lo. above_none j (h j lo)
+  nothing_above Earlier z h = λ j e so. h j e (below j e so)
 
-    module _ (p : ℕ × ℕ) (asked : Some p ≡ first_open x z) where
-      found : LeastOpen x z (Some p)
-      found = subst (LeastOpen x z) (sym asked) (first_found x timely z)
+  clear_above : (d : Toward) (z : ℕ) (p : ℕ × ℕ) → Answers d x z (Some p) → above p.0 ≡ Some p.1 → Answers d above z (Some p)
+  clear_above Later z p h at = (h.0, at, λ j lo hi. above_none j (h.2 j lo hi))
+  clear_above Earlier z p h at = (h.0, at, λ j e lo so. h.2 j e lo (below j e so))
 
-      pub first_clear : None ≡ hindering ns g p.0 p.1 → Some p ≡ first_open above t
-      first_clear c = first_is above above_timely z (Some p) (found.0, above_clear p.0 p.1 found.1 c, λ j lo hi. above_none j (found.2 j lo hi)) ∙ kept.same
+  open_at : (d : Toward) (z : ℕ) (p : ℕ × ℕ) → Answers d x z (Some p) → x p.0 ≡ Some p.1
+  open_at Later z p h = h.1
+  open_at Earlier z p h = h.1
 
-      -- up to the end of a notice in the way nothing is open above
-      jumped : (n : Notice) → Hinders ns g p.0 p.1 n → (j : ℕ) → z ≤ j → j < n.end → above j ≡ None
-      jumped n hind j lo hi =
-          ⊎_elim
-          (λ lt. above_none j (found.2 j lo lt))
-          (λ ge. ⊎_elim (above_none j)
-          (λ some. let later = law.order g p.0 j p.1 some.0 found.1 some.1 ge in
-          let test : clears g j some.0 n ≡ false = let h = hind.meets in grind (arith, nat_tests) in
-          above_hindered j some.0 some.1 (hind.stops j some.0 test))
-          (option_cases (x j)))
-          (cases_lt j p.0)
+  -- ---- a notice n is in the way of the passage p
+  module _ (p : ℕ × ℕ) (at : x p.0 ≡ Some p.1) (n : Notice) (hind : Hinders ns g p.0 p.1 n) where
+    -- what goes in no sooner, and before the end of n, is hindered; so is what comes out no later, and after the begin
+    jumped : (z : ℕ) → ((j : ℕ) → z ≤ j → j < p.0 → x j ≡ None) → (j : ℕ) → z ≤ j → j < n.end → above j ≡ None
+    jumped z least j lo hi =
+        ⊎_elim
+        (λ lt. above_none j (least j lo lt))
+        (λ ge. ⊎_elim (above_none j)
+        (λ some. let later = law.order g p.0 j p.1 some.0 at some.1 ge in
+        let test : clears g j some.0 n ≡ false = let h = hind.meets in grind (arith, nat_tests) in
+        above_hindered j some.0 some.1 (hind.stops j some.0 test))
+        (option_cases (x j)))
+        (cases_lt j p.0)
 
-      pub first_step : (n : Notice) → Some n ≡ hindering ns g p.0 p.1 → Kept (first_open above) ended ns t n.end (k + 1)
-      first_step n q =
+    jumped_back : (z : ℕ) → ((j d : ℕ) → p.0 < j → x j ≡ Some d → z < d) → (j d : ℕ) → above j ≡ Some d → n.begin < d → z < d
+    jumped_back z greatest j d so hi =
+        ⊎_elim
+        (λ lt. greatest j d lt (below j d so))
+        (λ ge. let sooner = law.order g j p.0 d p.1 (below j d so) at ge in
+        let test : clears g j d n ≡ false = let h = hind.meets in grind (arith, nat_tests) in
+        none_not_some (above j) d (above_hindered j d (below j d so) (hind.stops j d test)) so)
+        (cases_lt p.0 j)
+
+    -- so the answer past n is the answer at z
+    past_above : (d : Toward) (z : ℕ) → Answers d x z (Some p) → (r : Option (ℕ × ℕ)) → Answers d above (past d n) r → Answers d above z r
+    past_above Later z h r m =
+        let le : z ≤ n.end = let c = hind.meets in let lo = h.0 in grind (arith, nat_tests) in
+        least_sooner above z n.end le (jumped z h.2) r m
+    past_above Earlier z h r m =
+        let le : n.begin ≤ z = let c = hind.meets in let hi = h.0 in grind (arith, nat_tests) in
+        greatest_later above z n.begin le (jumped_back z h.2) r m
+
+    -- and one more notice is past there
+    past_more : (d : Toward) (z : ℕ) → Answers d x z (Some p) → count_by (passed d z) ns + 1 ≤ count_by (passed d (past d n)) ns
+    past_more Later z h =
+        let lt : z < n.end = let c = hind.meets in let lo = h.0 in grind (arith, nat_tests) in
+        hind.counts (passed Later z) (passed Later n.end) (λ m y. le-leb m.end n.end (omega (arith, leb-true m.end z y))) (lt-leb n.end z lt) (le-leb n.end n.end (omega arith))
+    past_more Earlier z h =
+        let lt : n.begin < z = let c = hind.meets in let hi = h.0 in grind (arith, nat_tests) in
+        hind.counts (passed Earlier z) (passed Earlier n.begin) (λ m y. le-leb n.begin m.begin (omega (arith, leb-true z m.begin y))) (lt-leb z n.begin lt) (le-leb n.begin n.begin (omega arith))
+
+  -- ---- a step
+  module _ (d : Toward) (t z k : ℕ) (kept : Kept d above ns t z k) where
+    asks : (r : Option (ℕ × ℕ)) → r ≡ answer_of d x z → Answers d x z r
+    asks r asked = subst (Answers d x z) (sym asked) (answered d x timely z)
+
+    answers : (r : Option (ℕ × ℕ)) → Answers d above z r → r ≡ answer_of d above t
+    answers r h = answer_is d above above_timely z r h ∙ kept.same
+
+    pub step_nothing : None ≡ answer_of d x z → None ≡ answer_of d above t
+    step_nothing asked = answers None (nothing_above d z (asks None asked))
+
+    module _ (p : ℕ × ℕ) (asked : Some p ≡ answer_of d x z) where
+      pub step_clear : None ≡ hindering ns g p.0 p.1 → Some p ≡ answer_of d above t
+      step_clear c = let h = asks (Some p) asked in answers (Some p) (clear_above d z p h (above_clear p.0 p.1 (open_at d z p h) c))
+
+      pub step_past : (n : Notice) → Some n ≡ hindering ns g p.0 p.1 → Kept d above ns t (past d n) (k + 1)
+      step_past n q =
+          let h = asks (Some p) asked in
           let hind = hindered ns g p.0 p.1 n (sym q) in
-          let past : p.0 < n.end = let c = hind.meets in grind (arith, nat_tests) in
-          let lo = found.0 in
-          let more = hind.counts (ended z) (ended n.end) (λ m y. le-leb m.end n.end (omega (arith, leb-true m.end z y))) (lt-leb n.end z (omega arith)) (le-leb n.end n.end (omega arith)) in
-          let same = first_is above above_timely z (first_open above n.end) (least_sooner above z n.end (omega arith) (jumped n hind) (first_open above n.end) (first_found above above_timely n.end)) in
-          record { same = same ∙ kept.same; steps = omega (arith, kept.steps) }
-
-  -- ---- backwards
-  module _ (t z k : ℕ) (kept : Kept (last_open above) to_begin ns t z k) where
-    pub last_nothing : None ≡ last_open x z → None ≡ last_open above t
-    last_nothing asked =
-        let none : GreatestOut x z None = subst (GreatestOut x z) (sym asked) (last_found x timely z) in
-        last_is above above_timely z None (λ j d so. none j d (below j d so)) ∙ kept.same
-
-    module _ (p : ℕ × ℕ) (asked : Some p ≡ last_open x z) where
-      latest : GreatestOut x z (Some p)
-      latest = subst (GreatestOut x z) (sym asked) (last_found x timely z)
-
-      pub last_clear : None ≡ hindering ns g p.0 p.1 → Some p ≡ last_open above t
-      last_clear c = last_is above above_timely z (Some p) (latest.0, above_clear p.0 p.1 latest.1 c, λ j d lo so. latest.2 j d lo (below j d so)) ∙ kept.same
-
-      -- what comes out after the begin of a notice in the way comes out after z
-      jumped_back : (n : Notice) → Hinders ns g p.0 p.1 n → (j d : ℕ) → above j ≡ Some d → n.begin < d → z < d
-      jumped_back n hind j d so hi =
-          ⊎_elim
-          (λ lt. latest.2 j d lt (below j d so))
-          (λ ge. let sooner = law.order g j p.0 d p.1 (below j d so) latest.1 ge in
-          let test : clears g j d n ≡ false = let h = hind.meets in grind (arith, nat_tests) in
-          none_not_some (above j) d (above_hindered j d (below j d so) (hind.stops j d test)) so)
-          (cases_lt p.0 j)
-
-      pub last_step : (n : Notice) → Some n ≡ hindering ns g p.0 p.1 → Kept (last_open above) to_begin ns t n.begin (k + 1)
-      last_step n q =
-          let hind = hindered ns g p.0 p.1 n (sym q) in
-          let past : n.begin < p.1 = let c = hind.meets in grind (arith, nat_tests) in
-          let hi = latest.0 in
-          let more = hind.counts (to_begin z) (to_begin n.begin) (λ m y. le-leb n.begin m.begin (omega (arith, leb-true z m.begin y))) (lt-leb z n.begin (omega arith)) (le-leb n.begin n.begin (omega arith)) in
-          let same = last_is above above_timely z (last_open above n.begin) (greatest_later above z n.begin (omega arith) (jumped_back n hind) (last_open above n.begin) (last_found above above_timely n.begin)) in
-          record { same = same ∙ kept.same; steps = omega (arith, kept.steps) }
+          let there = answered d above above_timely (past d n) in
+          record {
+            same = answers (answer_of d above (past d n)) (past_above p (open_at d z p h) n hind d z h (answer_of d above (past d n)) there);
+            steps = omega (arith, kept.steps, past_more p (open_at d z p h) n hind d z h);
+          }

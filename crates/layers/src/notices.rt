@@ -6,6 +6,7 @@ use books::book::{Gate, Instant};
 pub mod calls;
 pub mod open;
 pub mod refusals;
+mod toward;
 
 // So many notices can be up at a time.
 pub const MOST_NOTICES: usize = 32;
