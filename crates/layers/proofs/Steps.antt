@@ -147,13 +147,13 @@ module _ (ns : List Notice) (gates : ℕ) (exits : Exits) (law : Lawful gates ex
     past_more : (d : Toward) → Nearest d x z (Some p) → count_by (passed d z) ns + 1 ≤ count_by (passed d (past d n)) ns
     past_more Later h =
         let lt : z < n.end = let c = hind.meets in let lo = h.0 in grind (arith, nat_tests) in
-        hind.counts (passed Later z) (passed Later n.end) (λ m y. le-leb m.end n.end (omega (arith, leb-true m.end z y))) (lt-leb n.end z lt) (le-leb n.end n.end (omega arith))
+        hind.counts (passed Later z) (passed Later n.end) (λ m y. grind (arith, nat_tests)) (grind (arith, nat_tests)) (grind (arith, nat_tests))
     past_more Earlier h =
         let lt : n.begin < z = let c = hind.meets in let hi = h.0 in grind (arith, nat_tests) in
-        hind.counts (passed Earlier z) (passed Earlier n.begin) (λ m y. le-leb n.begin m.begin (omega (arith, leb-true z m.begin y))) (lt-leb z n.begin lt) (le-leb n.begin n.begin (omega arith))
+        hind.counts (passed Earlier z) (passed Earlier n.begin) (λ m y. grind (arith, nat_tests)) (grind (arith, nat_tests)) (grind (arith, nat_tests))
 
   -- ---- a step
-  module _ (d : Toward) (t z k : ℕ) (kept : Kept d above ns t z k) where
+  module _ {d : Toward} {t z k : ℕ} (kept : Kept d above ns t z k) where
     asks : (r : Option (ℕ × ℕ)) → r ≡ answer_of d x z → Nearest d x z r
     asks r asked = subst (Nearest d x z) (sym asked) (answered x z (lawful_in_time gates exits law g) d)
 
@@ -163,15 +163,15 @@ module _ (ns : List Notice) (gates : ℕ) (exits : Exits) (law : Lawful gates ex
     pub step_nothing : None ≡ answer_of d x z → None ≡ answer_of d above t
     step_nothing asked = let h = asks None asked in answers None (λ s e so. h s e (below s e so))
 
-    module _ (p : ℕ × ℕ) (asked : Some p ≡ answer_of d x z) where
+    module _ {p : ℕ × ℕ} (asked : Some p ≡ answer_of d x z) where
       near : Nearest d x z (Some p)
       near = asks (Some p) asked
 
       pub step_clear : None ≡ hindering ns g p.0 p.1 → Some p ≡ answer_of d above t
       step_clear c = answers (Some p) (near.0, above_clear p.0 p.1 near.1 c, λ s e so. near.2 s e (below s e so))
 
-      pub step_past : (n : Notice) → Some n ≡ hindering ns g p.0 p.1 → Kept d above ns t (past d n) (k + 1)
-      step_past n q =
+      pub step_past : {n : Notice} → Some n ≡ hindering ns g p.0 p.1 → Kept d above ns t (past d n) (k + 1)
+      step_past {n} q =
           let hind = hindered ns g p.0 p.1 n (sym q) in
           let there = answered above (past d n) above_timely d in
           record {
