@@ -1,8 +1,8 @@
 -- Lemmas: stepping over the notices in the way keeps the answer, in at most one step for each notice.
-use Rattle.std.proofs.Common.{◌≡◌, ℕ, ◌+◌, ◌<◌, ◌≤◌, Bool, true, false, cond, leb, List, [], ◌∷◌, Some, None, Option, sym, refl, ap, ◌∙◌, subst, ⊎_elim, arith}
+use Rattle.std.proofs.Common.{◌≡◌, ℕ, ◌+◌, ◌≤◌, Bool, true, false, cond, leb, List, [], ◌∷◌, Some, None, Option, sym, refl, ap, ◌∙◌, subst, ⊎_elim, arith}
 use Rattle.std.specs.List.{count_by}
 use Rattle.std.proofs.lemmas.List.Sums.{sum_by-cons}
-use Rattle.std.proofs.lemmas.Bool.{cases_Bool, cases_lt, cond-false, leb-true, le-leb, lt-leb, and_left, and_right}
+use Rattle.std.proofs.lemmas.Bool.{cases_Bool, cases_lt}
 use Rattle.std.proofs.lemmas.Bool.Decides.{nat_tests}
 use Rattle.books.specs.Meaning.{Exits, Lawful, first_open, last_open, LeastOpen, GreatestOut}
 use Rattle.books.specs.Options.{option_cases, none_not_some}
@@ -126,17 +126,17 @@ module _ (ns : List Notice) (gates : ℕ) (exits : Exits) (law : Lawful gates ex
     onwards : (d : Toward) → Nearest d x z (Some p) → (s e : ℕ) → above s ≡ Some e → Reaches d z s e → Reaches d (past d n) s e
     onwards Later h s e so reach =
         let two = let_by_only ns g s (x s) e so in
-        let m = hind.meets in
-        grind (arith, nat_tests, law.order g p.0 s p.1 e h.1 two.0 (h.2 s e two.0 reach), hind.spares s e two.1, h.2 s e two.0 reach)
+        let far = h.2 s e two.0 reach in
+        grind (arith, nat_tests, hind.meets, hind.spares s e two.1, law.order g p.0 s p.1 e h.1 two.0 far)
     onwards Earlier h s e so reach =
         let two = let_by_only ns g s (x s) e so in
-        let m = hind.meets in
-        grind (arith, nat_tests, law.order g s p.0 e p.1 two.0 h.1 (h.2 s e two.0 reach), hind.spares s e two.1, h.2 s e two.0 reach)
+        let far = h.2 s e two.0 reach in
+        grind (arith, nat_tests, hind.meets, hind.spares s e two.1, law.order g s p.0 e p.1 two.0 h.1 far)
 
     -- and the other way round
     back : (d : Toward) → Nearest d x z (Some p) → (s e : ℕ) → Reaches d (past d n) s e → Reaches d z s e
-    back Later h s e reach = let m = hind.meets in grind (arith, nat_tests, h.0)
-    back Earlier h s e reach = let m = hind.meets in grind (arith, nat_tests, h.0)
+    back Later h s e reach = grind (arith, nat_tests, hind.meets, h.0)
+    back Earlier h s e reach = grind (arith, nat_tests, hind.meets, h.0)
 
     -- so the answer past n is the answer at z
     past_above : (d : Toward) → Nearest d x z (Some p) → (r : Option (ℕ × ℕ)) → Nearest d above (past d n) r → Nearest d above z r
@@ -146,10 +146,10 @@ module _ (ns : List Notice) (gates : ℕ) (exits : Exits) (law : Lawful gates ex
     -- and one more notice is past there
     past_more : (d : Toward) → Nearest d x z (Some p) → count_by (passed d z) ns + 1 ≤ count_by (passed d (past d n)) ns
     past_more Later h =
-        let lt : z < n.end = let c = hind.meets in let lo = h.0 in grind (arith, nat_tests) in
+        let c = hind.meets in let lo = h.0 in
         hind.counts (passed Later z) (passed Later n.end) (λ m y. grind (arith, nat_tests)) (grind (arith, nat_tests)) (grind (arith, nat_tests))
     past_more Earlier h =
-        let lt : n.begin < z = let c = hind.meets in let hi = h.0 in grind (arith, nat_tests) in
+        let c = hind.meets in let hi = h.0 in
         hind.counts (passed Earlier z) (passed Earlier n.begin) (λ m y. grind (arith, nat_tests)) (grind (arith, nat_tests)) (grind (arith, nat_tests))
 
   -- ---- a step
