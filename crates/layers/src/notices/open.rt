@@ -1,8 +1,9 @@
 // A book under notices is again a book.
 ghost use Rattle.std.specs.Prelude.{◌≡◌};
 ghost use Rattle.layers.specs.NoticeLaws.{noticed_lawful};
-ghost use Rattle.layers.specs.Notices.{clears, hindering, noticed_exits};
+ghost use Rattle.layers.specs.Notices.{answer_of, clears, hindering, noticed_exits};
 
+use crate::notices::toward::Toward;
 use crate::notices::{Notice, Noticed};
 use books::book::{Book, Gate, Instant};
 
@@ -28,6 +29,23 @@ impl<B> Noticed<B> {
     }
 }
 
+impl<B: Book> Noticed<B> {
+    // The passage of the book that keeps clear: steps over each notice in the way, at most once each.
+    fn clear(&self, toward: Toward, gate: Gate, t: Instant) -> Option<(Instant, Instant)>
+        ensures { result ≡ answer_of toward (noticed_exits self.now.notices.items (B.Book.exits self.now.book) gate) t }
+    {
+        let mut at = t;
+        for _step in 0..self.notices.len() + 1 {
+            let passage = toward.ask(&self.book, gate, at)?;
+            match self.hindrance(gate, passage) {
+                None => return Some(passage),
+                Some(notice) => at = toward.past(notice),
+            }
+        }
+        None
+    }
+}
+
 impl<B: Book> Book for Noticed<B> {
     ghost gates = { λ b. B.Book.gates b.book };
 
@@ -39,29 +57,11 @@ impl<B: Book> Book for Noticed<B> {
         self.book.count()
     }
 
-    // Steps over each notice in the way, at most once each.
     fn first(&self, gate: Gate, t: Instant) -> Option<(Instant, Instant)> {
-        let mut from = t;
-        for _step in 0..self.notices.len() + 1 {
-            let earliest = self.book.first(gate, from)?;
-            match self.hindrance(gate, earliest) {
-                None => return Some(earliest),
-                Some(notice) => from = notice.end,
-            }
-        }
-        None
+        self.clear(Toward::Later, gate, t)
     }
 
-    // The same backwards. One loop for both would take two closures and a law of each direction.
     fn last(&self, gate: Gate, t: Instant) -> Option<(Instant, Instant)> {
-        let mut by = t;
-        for _step in 0..self.notices.len() + 1 {
-            let latest = self.book.last(gate, by)?;
-            match self.hindrance(gate, latest) {
-                None => return Some(latest),
-                Some(notice) => by = notice.begin,
-            }
-        }
-        None
+        self.clear(Toward::Earlier, gate, t)
     }
 }

@@ -1,0 +1,34 @@
+// Which way a gate is asked: from an instant on for what comes later, or by an instant for what comes earlier.
+ghost use Rattle.std.specs.Prelude.{◌≡◌};
+ghost use Rattle.layers.specs.Notices.{answer_of, past};
+
+use crate::notices::Notice;
+use books::book::{Book, Gate, Instant};
+
+#[derive(Clone, Copy)]
+pub(crate) enum Toward {
+    Later,
+    Earlier,
+}
+
+impl Toward {
+    // What the book answers.
+    pub(crate) fn ask<B: Book>(self, book: &B, gate: Gate, t: Instant) -> Option<(Instant, Instant)>
+        ensures { result ≡ answer_of self (B.Book.exits book.now gate) t }
+    {
+        match self {
+            Toward::Later => book.first(gate, t),
+            Toward::Earlier => book.last(gate, t),
+        }
+    }
+
+    // The instant to ask again at, past a notice in the way.
+    pub(crate) fn past(self, notice: Notice) -> Instant
+        ensures { result ≡ past self notice }
+    {
+        match self {
+            Toward::Later => notice.end,
+            Toward::Earlier => notice.begin,
+        }
+    }
+}
