@@ -1,14 +1,16 @@
 -- Lemmas: the way back from the least row with a label is a walk with that label.
-use Rattle.std.proofs.Common.{◌≡◌, ℕ, zero, suc, ◌+◌, ◌-◌, ◌<◌, ◌≤◌, Bool, true, false, cond, not, ◌&&◌, eqb, ltb, leb, List, [], ◌∷◌, length, get_or, drop, Some, None, Option, sym, refl, ap, ◌∙◌, subst, ⊎_elim, add-one, arith}
-use Rattle.std.specs.List.{slice_get, ContainsAt as Has}
-use Rattle.std.proofs.lemmas.List.{at_drop_more, at_drop_all}
-use Rattle.std.proofs.lemmas.Bool.{cases_Bool, cond-true, cond-false, eqb-true, eq-eqb, lt-ltb, le-leb, and_parts, and_from, not-true, not-false, not_from_false}
+use Rattle.std.proofs.Common.{◌≡◌, ℕ, zero, suc, ◌-◌, ◌<◌, ◌≤◌, Bool, true, false, not, ◌&&◌, eqb, ltb, List, [], ◌∷◌, length, get_or, Some, None, Option, sym, refl, ap, ◌∙◌, subst, ⊎_elim, arith}
+use Rattle.std.specs.List.{slice_get, position_or_len, position, ContainsAt as Has}
+use Rattle.std.proofs.lemmas.List.{get_or_default}
+use Rattle.std.proofs.lemmas.List.Sums.{fails_before_first, passes_at_first}
+use Rattle.std.proofs.lemmas.Option.{slice_get-get_or}
+use Rattle.std.proofs.lemmas.Bool.Decides.{nat_tests}
+use Rattle.std.proofs.lemmas.Bool.{cases_lt, both_ways, cond-true, eqb-true, eq-eqb, lt-ltb, and_parts, and_from, not-true, not-false, not_from_false}
 use Rattle.search.specs.Laws.{Laws, Antisymmetric}
-use Rattle.search.specs.Reaches.{in_chart, turned, all_turned}
+use Rattle.search.specs.Reaches.{in_chart}
 use Rattle.search.specs.Rows.{onward, bettering, gathered, lone, best}
 use Rattle.search.specs.Walks.{Inside, Leads, led, Good}
-use Rattle.search.specs.WayBack.{brings, bringer, row_of, came_by, readable, step_back, reach_of, put_before, reach_and, way_back, WaysBackAreWalks}
-use Rattle.search.specs.declared.reaches.Direction.{Direction}
+use Rattle.search.specs.WayBack.{brings, row_of, came_by, readable, step_back, reach_of, put_before, reach_and, way_back, WaysBackAreWalks}
 use Rattle.search.specs.declared.reaches.Reach.{Reach}
 use Rattle.search.proofs.CellSteps.{inside}
 use Rattle.search.proofs.Walked.{Brought, charted, itself, gathered_by, gathered_from, onward_some, onward_good, best_gone}
@@ -16,25 +18,10 @@ use Rattle.search.proofs.Walked.{Brought, charted, itself, gathered_by, gathered
 some_one : {A : Type 0} (o : Option A) (a b : A) → o ≡ Some a → o ≡ Some b → a ≡ b
 some_one o a b p q = cc
 
--- ---- the pass that looks for the reach
-module _ {L : Type 0} (good : L → L → Bool) (goes : ℕ → L → Option L) (f : ℕ → Option L) (v : ℕ) (z : L) (d : Direction) (es : List Reach) (i : ℕ) (so : bringer good goes f v z i (all_turned d (drop i es)) ≡ bringer good goes f v z 0 (all_turned d es)) where
-  module _ (e t : Reach) (h : i < length es) (turns : t ≡ turned d (get_or es i e)) where
-    one : cond (brings good goes f v z t) (Some i) (bringer good goes f v z (suc i) (all_turned d (drop (i + 1) es))) ≡ bringer good goes f v z 0 (all_turned d es)
-    one = ap (λ (r : Reach). cond (brings good goes f v z r) (Some i) (bringer good goes f v z (suc i) (all_turned d (drop (i + 1) es)))) turns ∙ sym (at_drop_more (λ l. bringer good goes f v z i (all_turned d l)) es i e h) ∙ so
-
-    pub bringer_here : brings good goes f v z t ≡ true → Some i ≡ bringer good goes f v z 0 (all_turned d es)
-    bringer_here y = sym (cond-true (brings good goes f v z t) (Some i) (bringer good goes f v z (suc i) (all_turned d (drop (i + 1) es))) y) ∙ one
-
-    pub bringer_again : brings good goes f v z t ≡ false → bringer good goes f v z (i + 1) (all_turned d (drop (i + 1) es)) ≡ bringer good goes f v z 0 (all_turned d es)
-    bringer_again n = ap (λ (j : ℕ). bringer good goes f v z j (all_turned d (drop (i + 1) es))) (add-one i) ∙ sym (cond-false (brings good goes f v z t) (Some i) (bringer good goes f v z (suc i) (all_turned d (drop (i + 1) es))) n) ∙ one
-
-  pub bringer_nowhere : length es ≤ i → None ≡ bringer good goes f v z 0 (all_turned d es)
-  bringer_nowhere h = sym (at_drop_all (λ l. bringer good goes f v z i (all_turned d l)) es i h) ∙ so
-
 module _ {L : Type 0} {good : L → L → Bool} {goes : ℕ → L → Option L} (laws : Laws good goes) (anti : Antisymmetric good) where
   -- a label that is not bettered by z is at least as good
   unbettered : (o : Option L) (z : L) → bettering good o (Some z) ≡ false → Good good o z
-  unbettered None z h = let w : ◌≡◌ {A = ℕ} 0 1 = cc in absurd (omega arith)
+  unbettered None z h = absurd (both_ways true h refl)
   unbettered (Some y) z h = (y, refl, not-false (good y z) h)
 
   good_unbettered : (o : Option L) (z : L) → Good good o z → bettering good o (Some z) ≡ false
@@ -52,26 +39,18 @@ module _ {L : Type 0} {good : L → L → Bool} {goes : ℕ → L → Option L} 
       let new = onward goes e.gate (f e.from) in
       and_from (in_chart e && eqb e.to v) (not (bettering good new (Some z))) (and_from (in_chart e) (eqb e.to v) (charted e ins) (eq-eqb e.to v to)) (not_from_false (bettering good new (Some z)) (good_unbettered new z g))
 
-  -- a reach that brings it is found, in a list that begins at number i
-  abbrev Found : (ℕ → Option L) → ℕ → L → List Reach → ℕ → Type 0
-  Found f v z es i = (n : ℕ) × (bringer good goes f v z i es ≡ Some (i + n)) × (r : Reach) × (slice_get es n ≡ Some r) × Has es r × (brings good goes f v z r ≡ true)
+  -- where a reach brings it, the first that does is found
+  abbrev Found : (ℕ → Option L) → ℕ → L → List Reach → Type 0
+  Found f v z es = (n : ℕ) × (position (brings good goes f v z) es ≡ Some n) × (r : Reach) × (slice_get es n ≡ Some r) × Has es r × (brings good goes f v z r ≡ true)
 
-  found_first : (f : ℕ → Option L) (v : ℕ) (z : L) (r : Reach) (es : List Reach) (i : ℕ) → brings good goes f v z r ≡ true → Found f v z (r ∷ es) i
-  found_first f v z r es i y = let s : i ≡ i + 0 = omega arith in (0, cond-true (brings good goes f v z r) (Some i) (bringer good goes f v z (suc i) es) y ∙ ap Some s, r, refl, (0, omega arith, λ d. refl), y)
-
-  found_later : (f : ℕ → Option L) (v : ℕ) (z : L) (r : Reach) (es : List Reach) (i : ℕ) → brings good goes f v z r ≡ false → Found f v z es (suc i) → Found f v z (r ∷ es) i
-  found_later f v z r es i n q =
-      let s : suc i + q.0 ≡ i + suc q.0 = omega arith in
-      (suc q.0, cond-false (brings good goes f v z r) (Some i) (bringer good goes f v z (suc i) es) n ∙ q.1 ∙ ap Some s, q.2, q.3, (suc q.4.0, omega (arith, q.4.1), q.4.2), q.5)
-
-  bringer_found : (f : ℕ → Option L) (v : ℕ) (z : L) (es : List Reach) (i j : ℕ) → j < length es → (e : Reach) → get_or es j e ≡ e → brings good goes f v z e ≡ true → Found f v z es i
-  bringer_found f v z [] i j l e at h = absurd (omega arith)
-  bringer_found f v z (r ∷ es) i zero l e at h = found_first f v z r es i (ap (brings good goes f v z) at ∙ h)
-  bringer_found f v z (r ∷ es) i (suc j) l e at h =
+  first_found : (f : ℕ → Option L) (v : ℕ) (z : L) (es : List Reach) (j : ℕ) → j < length es → (e : Reach) → get_or es j e ≡ e → brings good goes f v z e ≡ true → Found f v z es
+  first_found f v z es j l e at h =
+      let p = brings good goes f v z in
+      let n = position_or_len p es in
       ⊎_elim
-      (found_first f v z r es i)
-      (λ n. found_later f v z r es i n (bringer_found f v z es (suc i) j (omega arith) e at h))
-      (cases_Bool (brings good goes f v z r))
+      (λ before. absurd (both_ways (p e) (sym (ap p at) ∙ fails_before_first p es j e before) h))
+      (λ up. let inside_es : position_or_len (brings good goes f v z) es < length es = omega arith in (n, cond-true (ltb n (length es)) (Some n) None (lt-ltb n (length es) inside_es), get_or es n e, slice_get-get_or es n e inside_es, (n, inside_es, λ d. get_or_default es n d e inside_es), passes_at_first p es e inside_es))
+      (cases_lt j n)
 
   module _ (es : List Reach) (cells : List (Option L)) (at : ℕ) (x : L) (last : ℕ) (low : last ≤ 63) (long : 4096 ≤ length cells)
       (rows : (k v : ℕ) → k ≤ last → v < 64 → row_of cells k v ≡ best good goes es (lone at x) k v) where
@@ -100,7 +79,7 @@ module _ {L : Type 0} {good : L → L → Bool} {goes : ℕ → L → Option L} 
         record {
           by = r;
           number = n;
-          found = cond-true (readable cells (suc k) v) (came_by good goes es cells (suc k - 1) v (row_of cells (suc k) v)) None reads ∙ ap (came_by good goes es cells (suc k - 1) v) cell ∙ ap (λ (m : ℕ). bringer good goes (row_of cells m) v z 0 es) back ∙ first.1 ∙ ap Some count;
+          found = cond-true (readable cells (suc k) v) (came_by good goes es cells (suc k - 1) v (row_of cells (suc k) v)) None reads ∙ ap (came_by good goes es cells (suc k - 1) v) cell ∙ ap (λ (m : ℕ). position (brings good goes (row_of cells m) v z) es) back ∙ first.1;
           is = first.3;
           laid = first.4;
           ins = so.0;
@@ -133,8 +112,8 @@ module _ {L : Type 0} {good : L → L → Bool} {goes : ℕ → L → Option L} 
         e_brings : brings good goes (row_of cells k) v z e ≡ true
         e_brings = so_brings (row_of cells k) v z e brought.2 brought.3 (z, ap (onward goes e.gate) (like e.from brought.2.0) ∙ sym brought.4 ∙ top, itself laws z)
 
-        first : Found (row_of cells k) v z es 0
-        first = bringer_found (row_of cells k) v z es 0 brought.1.0 brought.1.1 e (brought.1.2 e) e_brings
+        first : Found (row_of cells k) v z es
+        first = first_found (row_of cells k) v z es brought.1.0 brought.1.1 e (brought.1.2 e) e_brings
 
         n : ℕ
         n = first.0
@@ -142,14 +121,11 @@ module _ {L : Type 0} {good : L → L → Bool} {goes : ℕ → L → Option L} 
         r : Reach
         r = first.2
 
-        count : 0 + n ≡ n
-        count = omega arith
-
         back : suc k - 1 ≡ k
         back = omega arith
 
         reads : readable cells (suc k) v ≡ true
-        reads = and_from (ltb 0 (suc k) && ltb (suc k) 64) (ltb v 64 && leb 4096 (length cells)) (and_from (ltb 0 (suc k)) (ltb (suc k) 64) (lt-ltb 0 (suc k) (omega arith)) (lt-ltb (suc k) 64 (omega arith))) (and_from (ltb v 64) (leb 4096 (length cells)) (lt-ltb v 64 vl) (le-leb 4096 (length cells) long))
+        reads = grind (arith, nat_tests)
 
         so : Inside r × (r.to ≡ v) × Good good (onward goes r.gate (row_of cells k r.from)) z
         so = brings_so (row_of cells k) v z r first.5

@@ -1,7 +1,8 @@
 -- Lemmas: what a round over the reaches does to each cell.
-use Rattle.std.proofs.Common.{◌≡◌, ℕ, ◌+◌, ◌<◌, ◌≤◌, Bool, true, false, cond, ◌&&◌, ◌||◌, eqb, ltb, ◌⊎◌, List, [], ◌∷◌, length, get_or, drop, set, None, Option, sym, refl, ap, ◌∙◌, inl, inr, ⊎_elim, arith}
+use Rattle.std.proofs.Common.{◌≡◌, ℕ, ◌+◌, ◌<◌, ◌≤◌, Bool, true, false, cond, ◌&&◌, ◌||◌, eqb, ltb, ◌⊎◌, List, [], ◌∷◌, length, get_or, drop, set, None, Option, sym, refl, ap, ◌∙◌, inl, ⊎_elim, arith}
+use Rattle.std.proofs.Math.Bool.{or-false}
 use Rattle.std.proofs.lemmas.List.{get_or-set_same, get_or-set_other, length-set, at_drop_more}
-use Rattle.std.proofs.lemmas.Bool.{cond-true, cond-false, cond_both, cases_eq, cases_Bool, eq-eqb, ne_eqb, ltb-true, and_parts, and_from, and_left, and_right, or_left, or_right}
+use Rattle.std.proofs.lemmas.Bool.{cond-true, cond-false, cond_both, cases_eq, cases_Bool, both_ways, eq-eqb, ne_eqb, eqb-true, ltb-true, and_parts, and_cases, and_from, and_left, and_right, or_parts, or_left, or_right}
 use Rattle.search.specs.Reaches.{in_chart, turned, all_turned}
 use Rattle.search.specs.Rows.{onward, bettering, better, come, tells, relaxed, rounded, stirred, gathered, stirs}
 use Rattle.search.specs.Walks.{Inside}
@@ -10,10 +11,6 @@ use Rattle.search.specs.declared.reaches.Reach.{Reach}
 
 pub inside : (e : Reach) → in_chart e ≡ true → Inside e
 inside e h = let two = and_parts (ltb e.from 64) (ltb e.to 64) h in (ltb-true e.from 64 two.0, ltb-true e.to 64 two.1)
-
-or_false : (b : Bool) → (b || false) ≡ b
-or_false true = refl
-or_false false = refl
 
 module _ {L : Type 0} (good : L → L → Bool) (goes : ℕ → L → Option L) where
   -- what one reach leaves at the place v
@@ -57,24 +54,21 @@ module _ {L : Type 0} (good : L → L → Bool) (goes : ℕ → L → Option L) 
       ap (gathered good goes es f v) kept ∙ still es f quiet.1 v
     where
       quiet : (stir f e ≡ false) × (stirs good goes es f ≡ false)
-      quiet = ⊎_elim (λ y. let z : true ≡ false = sym (or_left (stir f e) (stirs good goes es f) y) ∙ h in let w : ◌≡◌ {A = ℕ} 0 1 = cc in absurd (omega arith)) (λ n. (n, ⊎_elim (λ y. let z : true ≡ false = sym (or_right (stir f e) (stirs good goes es f) y) ∙ h in let w : ◌≡◌ {A = ℕ} 0 1 = cc in absurd (omega arith)) (λ m. m) (cases_Bool (stirs good goes es f)))) (cases_Bool (stir f e))
+      quiet = or_parts (stir f e) (stirs good goes es f) h
 
       new : Option L
       new = onward goes e.gate (f e.from)
+
+      unbettered : in_chart e ≡ true → bettering good (f e.to) new ≡ false
+      unbettered y = ⊎_elim (λ n. absurd (both_ways (in_chart e) n y)) (λ n. n) (and_cases (in_chart e) (bettering good (f e.to) new) quiet.0)
 
       kept : step f v e (f v) ≡ f v
       kept =
           ⊎_elim
           (λ y. let two = and_parts (in_chart e) (eqb e.to v) y in
-          ⊎_elim
-          (λ same. cond-true (in_chart e && eqb e.to v) (better good (f v) new) (f v) y ∙ cond-false (bettering good (f v) new) new (f v) (sym (ap (λ w. bettering good (f w) new) same) ∙ unbettered two.0))
-          (λ apart. let z : true ≡ false = sym two.1 ∙ ne_eqb e.to v apart in let w : ◌≡◌ {A = ℕ} 0 1 = cc in absurd (omega arith))
-          (cases_eq e.to v))
+          cond-true (in_chart e && eqb e.to v) (better good (f v) new) (f v) y ∙ cond-false (bettering good (f v) new) new (f v) (sym (ap (λ w. bettering good (f w) new) (eqb-true e.to v two.1)) ∙ unbettered two.0))
           (λ n. cond-false (in_chart e && eqb e.to v) (better good (f v) new) (f v) n)
           (cases_Bool (in_chart e && eqb e.to v))
-        where
-          unbettered : in_chart e ≡ true → bettering good (f e.to) new ≡ false
-          unbettered y = ⊎_elim (λ b. let z : true ≡ false = sym (and_from (in_chart e) (bettering good (f e.to) new) y b) ∙ quiet.0 in let w : ◌≡◌ {A = ℕ} 0 1 = cc in absurd (omega arith)) (λ n. n) (cases_Bool (bettering good (f e.to) new))
 
 module _ {L : Type 0} (good : L → L → Bool) (goes : ℕ → L → Option L) (p q : ℕ) where
   pub length_relaxed : (cells : List (Option L)) (e : Reach) → length (relaxed good goes p q cells e) ≡ length cells
@@ -153,7 +147,7 @@ module _ {L : Type 0} (good : L → L → Bool) (goes : ℕ → L → Option L) 
 
     -- a round from a row into its like betters a place where a reach betters its end in that row
     stirred_is : (cells : List (Option L)) (b : Bool) (es : List Reach) → Reads cells p → Reads cells q → stirred good goes p q cells b es ≡ (b || stirs good goes es f)
-    stirred_is cells b [] at_p at_q = sym (or_false b)
+    stirred_is cells b [] at_p at_q = sym (or-false b)
     stirred_is cells b (e ∷ es) at_p at_q =
         let is = tells_is cells e at_p at_q in
         ⊎_elim
@@ -161,7 +155,7 @@ module _ {L : Type 0} (good : L → L → Bool) (goes : ℕ → L → Option L) 
         ∙ sym (or_right b (stir good goes f e || stirs good goes es f) (or_left (stir good goes f e) (stirs good goes es f) y)))
         (λ n. ap (λ c. stirred good goes p q c (b || tells good goes p q cells e) es) (cond-false (tells good goes p q cells e) (set cells (q + e.to) (come goes p cells e)) cells (is ∙ n))
         ∙ ap (λ c. stirred good goes p q cells (b || c) es) (is ∙ n)
-        ∙ ap (λ c. stirred good goes p q cells c es) (or_false b)
+        ∙ ap (λ c. stirred good goes p q cells c es) (or-false b)
         ∙ stirred_is cells b es at_p at_q
         ∙ ap (λ c. b || (c || stirs good goes es f)) (sym n))
         (cases_Bool (stir good goes f e))
@@ -191,12 +185,6 @@ module _ {L : Type 0} (good : L → L → Bool) (goes : ℕ → L → Option L) 
 
     pub advanced_row : (v : ℕ) → v < 64 → get_or new (q + v) None ≡ gathered good goes es (λ u. get_or old (p + u) None) v (get_or old (p + v) None)
     advanced_row v low = ap (λ n. get_or n (q + v) None) is ∙ rounded_at (λ u. get_or old (p + u) None) apart mid es before long v low ∙ ap (gathered good goes es (λ u. get_or old (p + u) None) v) (carried v low)
-
-    pub advanced_below : (j : ℕ) → j < q → get_or new j None ≡ get_or old j None
-    advanced_below j h = ap (λ n. get_or n j None) is ∙ rounded_outside mid es j (inl h) ∙ under j h
-
-    pub advanced_above : (j : ℕ) → q + 64 ≤ j → get_or new j None ≡ get_or old j None
-    advanced_above j h = ap (λ n. get_or n j None) is ∙ rounded_outside mid es j (inr h) ∙ over j h
 
     pub advanced_told : stirred good goes p q mid false es ≡ stirs good goes es (λ u. get_or old (p + u) None)
     advanced_told = stirred_is (λ u. get_or old (p + u) None) mid false es before carried

@@ -1,3 +1,4 @@
+pub mod Begun
 pub mod CellSteps
 pub mod Best
 pub mod Walked
@@ -5,3 +6,4 @@ pub mod Simple
 pub mod Settled
 pub mod Backwards
 pub mod Skipped
+pub mod Onwards

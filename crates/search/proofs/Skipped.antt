@@ -1,5 +1,6 @@
 -- Lemmas: a reach whose start has kept its label betters nothing, so it can be left out of a round.
-use Rattle.std.proofs.Common.{◌≡◌, ℕ, zero, suc, ◌+◌, ◌-◌, ◌*◌, ◌<◌, ◌≤◌, Bool, true, false, ◌&&◌, ◌||◌, eqb, ltb, List, [], ◌∷◌, length, get_or, drop, set, Some, None, Option, sym, refl, ap, ◌∙◌, subst, inl, ⊎_elim, arith}
+use Rattle.std.proofs.Common.{◌≡◌, ℕ, zero, suc, ◌+◌, ◌-◌, ◌*◌, ◌<◌, ◌≤◌, Bool, true, false, ◌&&◌, ◌||◌, eqb, ltb, List, [], ◌∷◌, length, get_or, drop, set, Some, None, Option, sym, refl, ap, ◌∙◌, subst, ⊎_elim, arith}
+use Rattle.std.proofs.Math.Bool.{or-false}
 use Rattle.std.proofs.lemmas.List.{at_drop_more}
 use Rattle.std.proofs.lemmas.Bool.{cases_Bool, both_ways, cond-true, cond-false, cond_both, lt-ltb, ltb-false, and_cases, and_left, and_right, or_parts, not-true, not_from_false, not_from_true}
 use Rattle.std.specs.List.{ContainsAt as Has}
@@ -9,7 +10,7 @@ use Rattle.search.specs.Rows.{onward, bettering, better, come, tells, relaxed, r
 use Rattle.search.specs.Walks.{Inside, Good}
 use Rattle.search.specs.declared.reaches.Direction.{Direction}
 use Rattle.search.specs.declared.reaches.Reach.{Reach}
-use Rattle.search.proofs.CellSteps.{inside, step, relaxed_outside, relaxed_at, gathered_same}
+use Rattle.search.proofs.CellSteps.{inside, step, relaxed_at, gathered_same}
 use Rattle.search.proofs.Walked.{itself, good_old, gathered_here, gathered_by}
 
 module _ {L : Type 0} {good : L → L → Bool} {goes : ℕ → L → Option L} (laws : Laws good goes) where
@@ -97,13 +98,6 @@ module _ {L : Type 0} {good : L → L → Bool} {goes : ℕ → L → Option L} 
         subst (λ (o : Option L). Good good o z) (sym (relaxed_at good goes p q f cells t (λ u l. refl) long v h))
         (cond_both (in_chart t && eqb t.to v) (better good here new) here (λ (o : Option L). Good good o z) (λ _. good_old laws here new z mine) (λ _. mine))
 
-    pub under_on : (t : Reach) → (j : ℕ) → j < 64 * k → get_or (relaxed good goes (64 * (k - 1)) (64 * k) cells t) j None ≡ get_or old j None
-    under_on t j h = relaxed_outside good goes (64 * (k - 1)) (64 * k) cells t j (inl h) ∙ under j h
-
-or_false : (b : Bool) → (b || false) ≡ b
-or_false true = refl
-or_false false = refl
-
 module _ {L : Type 0} (good : L → L → Bool) (goes : ℕ → L → Option L) (p q : ℕ) (d : Direction) (cells : List (Option L)) (es : List Reach) (i : ℕ) (e t : Reach) (h : i < length es) (turns : t ≡ turned d (get_or es i e)) (idle : tells good goes p q cells t ≡ false) where
   same_cells : relaxed good goes p q cells (turned d (get_or es i e)) ≡ cells
   same_cells = ap (relaxed good goes p q cells) (sym turns) ∙ cond-false (tells good goes p q cells t) (set cells (q + t.to) (come goes p cells t)) cells idle
@@ -114,7 +108,7 @@ module _ {L : Type 0} (good : L → L → Bool) (goes : ℕ → L → Option L) 
   pub stirred_skip : (b : Bool) → stirred good goes p q cells b (all_turned d (drop (i + 1) es)) ≡ stirred good goes p q cells b (all_turned d (drop i es))
   stirred_skip b =
       ap (λ (c : List (Option L)). stirred good goes p q c b (all_turned d (drop (i + 1) es))) (sym same_cells)
-      ∙ ap (λ (c : Bool). stirred good goes p q (relaxed good goes p q cells (turned d (get_or es i e))) c (all_turned d (drop (i + 1) es))) (sym (ap (λ (c : Bool). b || c) (ap (tells good goes p q cells) (sym turns) ∙ idle) ∙ or_false b))
+      ∙ ap (λ (c : Bool). stirred good goes p q (relaxed good goes p q cells (turned d (get_or es i e))) c (all_turned d (drop (i + 1) es))) (sym (ap (λ (c : Bool). b || c) (ap (tells good goes p q cells) (sym turns) ∙ idle) ∙ or-false b))
       ∙ sym (at_drop_more (λ l. stirred good goes p q cells b (all_turned d l)) es i e h)
 
 -- the reach of a turn is one of those gone over

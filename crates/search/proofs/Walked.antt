@@ -1,5 +1,6 @@
 -- Lemmas: the best labels are those of walks.
 use Rattle.std.proofs.Common.{◌≡◌, ℕ, zero, suc, ◌<◌, ◌≤◌, Bool, true, false, not, ◌&&◌, eqb, ltb, ◌⊎◌, List, [], ◌∷◌, length, get_or, Some, None, Option, sym, refl, ap, ◌∙◌, inl, inr, ⊎_elim, arith}
+use Rattle.std.proofs.lemmas.Option.{none-some}
 use Rattle.std.proofs.lemmas.Bool.{cond-true, cond-false, cond_both, cases_Bool, eq-eqb, eqb-true, lt-ltb, and_parts, and_from, not_from_false, not_from_true}
 use Rattle.std.specs.List.{ContainsAt as Has}
 use Rattle.search.specs.Laws.{Laws}
@@ -88,11 +89,8 @@ module _ {L : Type 0} {good : L → L → Bool} {goes : ℕ → L → Option L} 
       (λ b. inr (brought_more e es f v (gathered good goes es f v next) b))
       (gathered_from es f v next)
 
-  pub never : {P : Type 0} {z : L} → ◌≡◌ {A = Option L} None (Some z) → P
-  never h = let e : ◌≡◌ {A = ℕ} 0 1 = cc in absurd (omega arith)
-
   pub onward_some : (g : ℕ) (o : Option L) (z : L) → onward goes g o ≡ Some z → (y : L) × (o ≡ Some y) × (goes g y ≡ Some z)
-  onward_some g None z h = never h
+  onward_some g None z h = absurd (none-some z h)
   onward_some g (Some y) z h = (y, refl, h)
 
   pub onward_good : (g : ℕ) (o : Option L) (y z : L) → Good good o y → goes g y ≡ Some z → Good good (onward goes g o) z
@@ -115,7 +113,7 @@ module _ {L : Type 0} {good : L → L → Bool} {goes : ℕ → L → Option L} 
     best_gone zero v z h =
         ⊎_elim
         (λ t. ([], omega arith, eqb-true at v t, sym (cond-true (eqb at v) (Some x) None t) ∙ h))
-        (λ t. never (sym (cond-false (eqb at v) (Some x) None t) ∙ h))
+        (λ t. absurd (none-some z (sym (cond-false (eqb at v) (Some x) None t) ∙ h)))
         (cases_Bool (eqb at v))
     best_gone (suc k) v z h =
         let f : ℕ → Option L = best good goes es (lone at x) k in

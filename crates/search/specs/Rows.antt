@@ -1,5 +1,5 @@
 -- Rows of best labels, one cell for each of the 64 places. Assumes nothing.
-use Rattle.std.specs.Prelude.{◌≡◌, ℕ, zero, suc, ◌+◌, ◌-◌, ◌*◌, ◌<◌, ◌≤◌, Bool, true, false, cond, not, ◌&&◌, ◌||◌, List, [], ◌∷◌, slice_index_or, Some, None, Option, ◌==◌, nat_lt, slice_set}
+use Rattle.std.specs.Prelude.{◌≡◌, ℕ, zero, suc, ◌+◌, ◌-◌, ◌*◌, ◌<◌, ◌≤◌, Bool, true, false, cond, not, ◌&&◌, ◌||◌, List, [], ◌∷◌, length, slice_index_or, Some, None, Option, ◌==◌, nat_lt, slice_set}
 use Rattle.search.specs.Reaches.{in_chart}
 use Rattle.search.specs.declared.reaches.Reach.{Reach}
 
@@ -63,6 +63,10 @@ stirred good goes p q cells b (e ∷ es) = stirred good goes p q (relaxed good g
 -- whether the label at a place was bettered in the round before round k
 abbrev pub fresh : {L : Type 0} → (L → L → Bool) → List (Option L) → ℕ → ℕ → Bool
 fresh good cells k u = nat_lt u 64 && (nat_lt k 2 || bettering good (slice_index_or cells (64 * (k - 2) + u) None) (slice_index_or cells (64 * (k - 1) + u) None))
+
+-- row k lies in the cells
+abbrev pub RowIn : {L : Type 0} → List (Option L) → ℕ → Type 0
+RowIn cells k = 64 * k + 64 ≤ length cells
 
 -- row k - 1 came from row k - 2 by a round over the reaches, if there is a row k - 2
 abbrev pub RoundBefore : {L : Type 0} → (L → L → Bool) → (ℕ → L → Option L) → List Reach → List (Option L) → ℕ → Type 0

@@ -1,5 +1,5 @@
 -- Reading a way back through the rows of a search, one reach at a time from the last. Assumes nothing.
-use Rattle.std.specs.Prelude.{◌≡◌, ℕ, zero, suc, ◌+◌, ◌-◌, ◌*◌, ◌<◌, ◌≤◌, Bool, cond, not, ◌&&◌, List, [], ◌∷◌, length, Some, None, Option, ◌==◌, nat_le, nat_lt, slice_index_or}
+use Rattle.std.specs.Prelude.{◌≡◌, ℕ, zero, suc, ◌+◌, ◌-◌, ◌*◌, ◌<◌, ◌≤◌, Bool, cond, not, ◌&&◌, List, [], ◌∷◌, length, Some, None, Option, ◌==◌, nat_le, nat_lt, position, slice_index_or}
 use Rattle.std.specs.List.{slice_get}
 use Rattle.search.specs.Reaches.{in_chart}
 use Rattle.search.specs.Rows.{onward, bettering, lone, best}
@@ -10,19 +10,14 @@ use Rattle.search.specs.declared.reaches.Reach.{Reach}
 abbrev pub brings : {L : Type 0} → (L → L → Bool) → (ℕ → L → Option L) → (ℕ → Option L) → ℕ → L → Reach → Bool
 brings good goes f v z e = (in_chart e && e.to == v) && not (bettering good (onward goes e.gate (f e.from)) (Some z))
 
--- the number of the first reach that does, in a list that begins at number i
-abbrev pub bringer : {L : Type 0} → (L → L → Bool) → (ℕ → L → Option L) → (ℕ → Option L) → ℕ → L → ℕ → List Reach → Option ℕ
-bringer good goes f v z i [] = None
-bringer good goes f v z i (e ∷ es) = cond (brings good goes f v z e) (Some i) (bringer good goes f v z (suc i) es)
-
 -- the labels of a row of cells
 abbrev pub row_of : {L : Type 0} → List (Option L) → ℕ → ℕ → Option L
 row_of cells k u = slice_index_or cells (64 * k + u) None
 
--- by which reach the label z came to place v in the row after k
+-- the number of the first reach by which the label z came to place v in the row after k
 abbrev pub came_by : {L : Type 0} → (L → L → Bool) → (ℕ → L → Option L) → List Reach → List (Option L) → ℕ → ℕ → Option L → Option ℕ
 came_by good goes es cells k v None = None
-came_by good goes es cells k v (Some z) = bringer good goes (row_of cells k) v z 0 es
+came_by good goes es cells k v (Some z) = position (brings good goes (row_of cells k) v z) es
 
 -- the row and the place are among those that the cells hold, and it is not row 0
 abbrev pub readable : {L : Type 0} → List (Option L) → ℕ → ℕ → Bool

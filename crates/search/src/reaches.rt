@@ -12,7 +12,7 @@ pub type Gate = u16;
 pub const PLACES: Place = 64;
 
 // A reach leads one way between two places, which may be the same, and lies behind one gate.
-#[derive(Clone, Copy)]
+#[derive(Clone, Copy, PartialEq, Eq, Debug)]
 pub struct Reach {
     pub from: Place,
     pub to: Place,
@@ -20,7 +20,7 @@ pub struct Reach {
 }
 
 // Whether a search goes along the reaches or against them.
-#[derive(Clone, Copy)]
+#[derive(Clone, Copy, PartialEq, Eq, Debug)]
 pub enum Direction {
     Along,
     Against,
@@ -36,7 +36,7 @@ impl Direction {
             Direction::Against => Reach {
                 from: reach.to,
                 to: reach.from,
-                gate: reach.gate,
+                ..reach
             },
         }
     }

@@ -8,13 +8,12 @@ fn reach(from: u16, to: u16, gate: u16) -> Reach {
 }
 
 // From place 0 to 1, from there to 2, and so on.
-fn chain(reaches: &mut [Reach]) {
-    let mut from: u16 = 0;
-    for r in reaches.iter_mut() {
-        let to = from.wrapping_add(1);
-        *r = reach(from, to, 0);
-        from = to;
+fn chain() -> [Reach; 63] {
+    let mut reaches = [reach(0, 1, 0); 63];
+    for from in 0..63 {
+        reaches[usize::from(from)] = reach(from, from + 1, 0);
     }
+    reaches
 }
 
 // The last row of a search along the reaches from place 0, and what it has at a place.
@@ -71,8 +70,7 @@ fn loops_and_better_ways(rt: HostRuntime) {
 
 #[test]
 fn a_chain_of_63(rt: HostRuntime) {
-    let mut reaches = [reach(0, 1, 0); 63];
-    chain(&mut reaches);
+    let reaches = chain();
     assert_eq!(rt; found(&[1], &reaches, 0, 63), Some((63, Some(68))));
     let mut cells = [None; 4096];
     let by = Tolls { tolls: &[1] };

@@ -26,11 +26,7 @@ impl Reckoning for Tolls<'_> {
     }
 
     fn go(&self, gate: Gate, x: u16) -> Option<u16> {
-        let gate = usize::from(gate);
-        if gate < self.tolls.len() {
-            x.checked_add(self.tolls[gate])
-        } else {
-            None
-        }
+        let toll = *self.tolls.get(usize::from(gate))?;
+        x.checked_add(toll)
     }
 }

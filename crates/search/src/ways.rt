@@ -1,29 +1,30 @@
 // Reading a way back through the rows of a search.
-ghost use Rattle.std.specs.Prelude.{◌≡◌, ℕ, ◌+◌, ◌-◌, ◌*◌, ◌<◌, ◌≤◌, length, None, slice_index_or};
+ghost use Rattle.std.specs.Prelude.{◌≡◌, position};
 ghost use Rattle.search.specs.Reaches.{all_turned};
-ghost use Rattle.search.specs.WayBack.{brings, bringer, row_of, step_back, WaysBackAreWalks};
+ghost use Rattle.search.specs.Rows.{RowIn};
+ghost use Rattle.search.specs.WayBack.{brings, row_of, step_back, WaysBackAreWalks};
 
 use crate::reaches::{PLACES, Place, Reach};
 use crate::reckoning::Reckoning;
 use crate::rounds::{betters, go_on};
 use crate::rows::{CELLS, Search};
 
-// Whether a reach brings to a place, from the row at p, a label at least as good as z.
+// Whether a reach brings to a place, from row k, a label at least as good as z.
 fn brings_to<R: Reckoning>(
     by: &R,
     cells: &[Option<R::Label>],
-    p: usize,
+    k: usize,
     place: Place,
     z: R::Label,
     e: Reach,
 ) -> bool
-    requires { p + 64 ≤ length cells.now }
-    ensures { result ≡ brings (R.good by.now) (R.goes by.now) (λ u. slice_index_or cells.now (p + u) None) place z e }
+    requires { RowIn cells.now k }
+    ensures { result ≡ brings (R.good by.now) (R.goes by.now) (row_of cells.now k) place z e }
 {
     if e.from >= PLACES || e.to >= PLACES || e.to != place {
         return false;
     }
-    let here = cells[p + usize::from(e.from)];
+    let here = cells[64 * k + usize::from(e.from)];
     !betters(by, go_on(by, e.gate, here), Some(z))
 }
 
@@ -32,19 +33,17 @@ impl<R: Reckoning> Search<'_, R> {
     fn first_bringer(
         self,
         cells: &[Option<R::Label>],
-        p: usize,
+        k: usize,
         place: Place,
         z: R::Label,
     ) -> Option<usize>
-        requires { p + 64 ≤ length cells.now }
-        ensures { result ≡ bringer (R.good self.entry.by.now) (R.goes self.entry.by.now) (λ u. slice_index_or cells.now (p + u) None) place z 0 (all_turned self.entry.direction self.entry.reaches.now) }
+        requires { RowIn cells.now k }
+        ensures { result ≡ position (brings (R.good self.entry.by.now) (R.goes self.entry.by.now) (row_of cells.now k) place z) (all_turned self.entry.direction self.entry.reaches.now) }
     {
-        for (i, reach) in self.reaches.iter().enumerate() {
-            if brings_to(self.by, cells, p, place, z, self.direction.turn(*reach)) {
-                return Some(i);
-            }
-        }
-        None
+        self.reaches
+            .iter()
+            .map(|reach| self.direction.turn(*reach))
+            .position(|e| brings_to(self.by, cells, k, place, z, e))
     }
 
     // The number of the reach by which the label at a place came into a row of cells that a search filled. From the least
@@ -56,10 +55,7 @@ impl<R: Reckoning> Search<'_, R> {
         if row == 0 || row >= 64 || place >= PLACES || cells.len() < CELLS {
             return None;
         }
-        let here = cells[64 * row + usize::from(place)];
-        match here {
-            Some(z) => self.first_bringer(cells, 64 * (row - 1), place, z),
-            None => None,
-        }
+        let label = cells[64 * row + usize::from(place)]?;
+        self.first_bringer(cells, row - 1, place, label)
     }
 }

@@ -2,7 +2,7 @@ use Rattle.std.proofs.Common.{◌≡◌, ℕ, ◌+◌, ◌-◌, ◌*◌, ◌<◌
 use Rattle.search.specs.Reaches.{all_turned}
 use Rattle.search.specs.Rows.{rounded, stirred, Carried}
 use Rattle.search.specs.Walks.{Good}
-use Rattle.search.proofs.rows.Search.pass.Given as goal
+use Rattle.search.proofs.rows.Search.round.Given as goal
 
 abbrev pub invariant-loop-reach : goal.invariant-loop-reach
 invariant-loop-reach g l =

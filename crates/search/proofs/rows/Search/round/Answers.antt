@@ -1,13 +1,13 @@
-use Rattle.std.proofs.Common.{◌+◌, ◌-◌, ◌*◌, ◌<◌, ◌≤◌, Bool, List, length, get_or, drop, None, Option, sym, refl, ap, ◌∙◌, subst, inl, inr, arith}
+use Rattle.std.proofs.Common.{◌≡◌, ℕ, ◌+◌, ◌-◌, ◌*◌, ◌<◌, ◌≤◌, Bool, List, false, length, get_or, drop, None, Option, sym, refl, ap, ◌∙◌, subst, inl, inr, arith}
 use Rattle.std.proofs.lemmas.List.{at_drop_all}
 use Rattle.std.specs.List.{ContainsAt as Has}
 use Rattle.search.specs.Reaches.{all_turned}
-use Rattle.search.specs.Rows.{rounded, stirred}
+use Rattle.search.specs.Rows.{rounded, stirred, RoundBefore, Carried}
 use Rattle.search.specs.Walks.{Good}
-use Rattle.search.proofs.CellSteps.{relaxed_outside, rounded_more, stirred_more}
-use Rattle.search.proofs.Skipped.{quiet, no_worse_on, rounded_skip, stirred_skip, turned_has}
-use Rattle.search.proofs.rows.Search.pass.Goals as goal
-use Rattle.search.proofs.rows.Search.pass.Goals.{then-is_new, else-is_new}
+use Rattle.search.proofs.CellSteps.{relaxed_outside, rounded_more, stirred_more, advanced_row, advanced_told}
+use Rattle.search.proofs.Skipped.{quiet, no_worse_on, rounded_skip, stirred_skip, turned_has, before_kept}
+use Rattle.search.proofs.rows.Search.round.Goals as goal
+use Rattle.search.proofs.rows.Search.round.Goals.{then-is_new, else-is_new}
 
 pub loop-reach-init : goal.loop-reach-init
 loop-reach-init g c = ((λ h. (refl, refl, λ v l z o. subst (λ (p : Option g.row.R-Label.Denot). Good (g.R.Reckoning.good c.args.self.by.now) p z) (sym (h.0 v l)) o)), (λ j h. refl), λ j h. refl)
@@ -26,7 +26,7 @@ loop-reach-preserved g c =
     let es = c.args.self.reaches.now in
     let i = c.loop-reach.reach-index in
     let t = c.turn-e.result in
-    let old = c.args.cells.now in
+    let old = c.copy_within.new.self in
     let cells = c.loop-reach.cells in
     let under = c.loop-reach.invariant.2 in
     let some : 0 < c.args.k = omega arith in
@@ -60,11 +60,25 @@ pub returns : goal.returns
 returns g c =
     let a = g.R.Reckoning.good c.args.self.by.now in
     let b = g.R.Reckoning.goes c.args.self.by.now in
+    let k = c.args.k in
     let p = 64 * (c.args.k - 1) in
     let q = 64 * c.args.k in
-    record {
-      cells = λ h. sym (at_drop_all (λ l. rounded a b p q c.loop-reach.cells (all_turned c.args.self.direction l)) c.args.self.reaches.now c.loop-reach.reach-index c.loop-reach-test.false) ∙ (c.loop-reach.invariant.0 h).0;
-      told = λ h. sym (at_drop_all (λ l. stirred a b p q c.loop-reach.cells c.loop-reach.told (all_turned c.args.self.direction l)) c.args.self.reaches.now c.loop-reach.reach-index c.loop-reach-test.false) ∙ (c.loop-reach.invariant.0 h).1;
-      below = c.loop-reach.invariant.2;
-      above = c.loop-reach.invariant.1;
-    }
+    let es = all_turned c.args.self.direction c.args.self.reaches.now in
+    let old = c.args.cells.now in
+    let mid = c.copy_within.new.self in
+    let new = c.loop-reach.cells in
+    let inv = c.loop-reach.invariant in
+    let copied = c.copy_within.ensures.by_index in
+    let apart : 64 * (c.args.k - 1) + 64 ≤ 64 * c.args.k = omega arith in
+    let long : 64 * c.args.k + 64 ≤ length c.copy_within.new.self = omega (arith, c.requires.held) in
+    let row : (v : ℕ) → v < 64 → get_or c.copy_within.new.self (64 * c.args.k + v) None ≡ get_or c.args.cells.now (64 * (c.args.k - 1) + v) None =
+    λ v h. let e : 64 * (c.args.k - 1) + (64 * c.args.k + v - 64 * c.args.k) ≡ 64 * (c.args.k - 1) + v = omega arith in copied.0 (q + v) None (omega arith) (omega arith) ∙ ap (λ (n : ℕ). get_or old n None) e in
+    let below : (j : ℕ) → j < 64 * c.args.k → get_or c.copy_within.new.self j None ≡ get_or c.args.cells.now j None = λ j h. copied.1 j None h in
+    let above : (j : ℕ) → 64 * c.args.k + 64 ≤ j → get_or c.copy_within.new.self j None ≡ get_or c.args.cells.now j None = λ j h. copied.2 j None (omega arith) in
+    let carried : RoundBefore a b es old k → Carried a b es mid k = λ h. ((λ v l. row v l ∙ sym (below (p + v) (omega arith))), before_kept a b es k old mid below h) in
+    let cells : RoundBefore a b es old k → new ≡ rounded a b p q mid es = λ h. sym (at_drop_all (λ l. rounded a b p q new (all_turned c.args.self.direction l)) c.args.self.reaches.now c.loop-reach.reach-index c.loop-reach-test.false) ∙ (inv.0 (carried h)).0 in
+    let told : RoundBefore a b es old k → c.loop-reach.told ≡ stirred a b p q mid false es = λ h. sym (at_drop_all (λ l. stirred a b p q new c.loop-reach.told (all_turned c.args.self.direction l)) c.args.self.reaches.now c.loop-reach.reach-index c.loop-reach-test.false) ∙ (inv.0 (carried h)).1 in (
+      (λ j h. inv.2 j h ∙ below j h),
+      (λ j h. inv.1 j h ∙ above j h),
+      λ h. (told h ∙ advanced_told a b p q apart old mid new es long row below above (cells h), advanced_row a b p q apart old mid new es long row below above (cells h)),
+    )
