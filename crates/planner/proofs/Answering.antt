@@ -14,6 +14,7 @@ use Rattle.planner.specs.Charts.{Charted}
 use Rattle.planner.specs.Headings.{good_of, goes_of, start_of, end_of, FitsBy, rule_by, UnbeatenBy, label_in, figures_from, figures_by}
 use Rattle.planner.specs.Journeys.{Journey, NoSuchJourney}
 use Rattle.planner.specs.Outcomes.{Found, LookedFor}
+use Rattle.planner.specs.Refusals.{Fits}
 use Rattle.planner.specs.Routes.{departs, arrives, figures}
 use Rattle.planner.specs.Ways.{wanted_of, LeastRow, FilledBy, ReachedBy, ReadBack, in_order, AtFirst, AtLast, Written}
 use Rattle.planner.specs.declared.legs.Answer.{Answer}
@@ -22,7 +23,6 @@ use Rattle.planner.specs.declared.ways.Aim.{Aim}
 use Rattle.planner.specs.declared.ways.Aim.TheVariants.{Time, Reaches}
 use Rattle.planner.proofs.Choosing.{Worth, Chosen, chosen_row, no_walk, chosen_none}
 use Rattle.planner.proofs.DueJourneys.{journey_walk_back, last_departs, last_due, last_against, last_journey}
-use Rattle.planner.proofs.Fitting.{Fits}
 use Rattle.planner.proofs.Heading.{laws_of, antisymmetric_of}
 use Rattle.planner.proofs.ReadyJourneys.{first_more, journey_walk, first_arrives, first_along, first_journey, first_ready, route_of}
 

@@ -1,18 +1,13 @@
 -- Lemmas: a question that is not declined at once fits.
-use Rattle.std.proofs.Common.{◌≡◌, ℕ, ◌<◌, ◌≤◌, Bool, true, false, cond, ◌||◌, ltb, Some, None, Option, refl, arith}
+use Rattle.std.proofs.Common.{◌≡◌, ℕ, ◌≤◌, Bool, true, false, cond, ◌||◌, ltb, Some, None, Option, refl, arith}
 use Rattle.std.proofs.lemmas.Bool.{ltb-false, or_parts}
 use Rattle.books.specs.Options.{none_not_some}
-use Rattle.planner.specs.Refusals.{question_fault}
+use Rattle.planner.specs.Refusals.{question_fault, Fits}
 
 -- a test that would have declined does not hold, and the rest decides
 passed : (b : Bool) (f : ℕ) (rest : Option ℕ) → None ≡ cond b (Some f) rest → (b ≡ false) × (None ≡ rest)
 passed true f rest h = none_not_some None f refl h
 passed false f rest h = (refl, h)
-
-pub record Fits (a b t : ℕ) : Type 0 where
-  pub from_place : a < 64
-  pub to_place : b < 64
-  pub in_time : t ≤ 20160
 
 pub fits : (cells legs a b t : ℕ) → None ≡ question_fault cells legs a b t → (4096 ≤ cells) × (63 ≤ legs) × Fits a b t
 fits cells legs a b t h =

@@ -1,10 +1,11 @@
 // The fastest journey: departures outside, rounds of reaches inside.
-ghost use Rattle.std.specs.Prelude.{◌≡◌, ◌<◌, ◌≤◌, length};
+ghost use Rattle.std.specs.Prelude.{◌≤◌, length};
 ghost use Rattle.search.specs.Reaches.{all_turned};
 ghost use Rattle.search.specs.Walks.{Unbeaten};
 ghost use Rattle.search.specs.declared.reaches.Direction.TheVariants.{Along};
 ghost use Rattle.planner.specs.Departures.{ArrivesFirst, Arrival, FastestChoice};
 ghost use Rattle.planner.specs.Reckonings.{no_later, comes_out};
+ghost use Rattle.planner.specs.Refusals.{Fits};
 
 use crate::reckonings::{EarliestArrival, LatestDeparture};
 use crate::trips::Trip;
@@ -20,7 +21,8 @@ fn leaving_for<B: Book>(
     e: Instant,
     cells: &mut [Option<Instant>],
 ) -> Instant
-    requires asked { (trip.from < 64) × ((trip.to < 64) × (4096 ≤ length cells.old)) }
+    requires fits { Fits trip.from trip.to trip.instant }
+    requires long { 4096 ≤ length cells.old }
     requires there { ArrivesFirst back.now.reaches.now (B.Book.exits back.now.by.now.book.now) trip.from trip.to trip.instant e }
     ensures since { trip.instant ≤ result }
     ensures first { ArrivesFirst back.now.reaches.now (B.Book.exits back.now.by.now.book.now) trip.from trip.to result e }
@@ -37,20 +39,22 @@ fn earliest_arrival<B: Book>(
     cells: &[Option<Instant>],
     last: usize,
 ) -> Option<Instant>
-    requires asked { (trip.to < 64) × (trip.instant ≤ 20160) }
+    requires fits { Fits trip.from trip.to trip.instant }
     requires searched { (last ≤ 63) × Unbeaten no_later (comes_out (B.Book.exits ahead.now.by.now.book.now)) (all_turned Along ahead.now.reaches.now) trip.from trip.instant cells.now last }
     ensures { Arrival ahead.now.reaches.now (B.Book.exits ahead.now.by.now.book.now) trip.from trip.to trip.instant result }
 {
     label_at(cells, last, trip.to)
 }
 
-// The departure of the fastest journey that is ready for the trip; of equally fast ones, the earliest.
+// The departure of the fastest journey that is ready for the trip; of equally fast ones, the earliest. The loops keep their labels:
+// a round that betters no place ends the one, a departure with no arrival the other.
 pub(crate) fn fastest_departure<B: Book>(
     ahead: &Course<EarliestArrival<B>>,
     trip: Trip,
     cells: &mut [Option<Instant>],
 ) -> Option<Instant>
-    requires { (trip.from < 64) × ((trip.to < 64) × ((trip.instant ≤ 20160) × (4096 ≤ length cells.old))) }
+    requires fits { Fits trip.from trip.to trip.instant }
+    requires long { 4096 ≤ length cells.old }
     ensures { FastestChoice ahead.now.reaches.now (B.Book.exits ahead.now.by.now.book.now) trip.from trip.to trip.instant result }
 {
     let by = LatestDeparture {

@@ -40,7 +40,8 @@ pub(crate) fn label_at(cells: &[Option<Instant>], row: usize, place: Place) -> O
     *cells.get(64 * row + usize::from(place))?
 }
 
-// The label to look for at a place: that of the last row, or any.
+// The label to look for at a place: that of the last row, or any. A closure in place of the aim would be no plainer: it would
+// read the same row.
 fn wanted_label(aim: Aim, cells: &[Option<Instant>], last: usize, place: Place) -> Option<Instant>
     requires { last < 64 }
     ensures { result ≡ wanted_of aim (row_of cells.now last place) }
@@ -85,7 +86,7 @@ fn figures_of(legs: &[Leg], t: Instant) -> Answer
     }
 }
 
-// A heading over the reaches laid.
+// A heading over the reaches laid, which are 256 at most, between the 64 places.
 #[derive(Drop)]
 pub(crate) struct Course<'a, H> {
     pub by: &'a H,

@@ -14,5 +14,5 @@ returns g c =
     let ex = g.B.Book.exits b in
     let t = c.args.trip in
     let row = row_of c.args.cells.now c.args.last t.to in
-    let best = row_best no_later (comes_out ex) (all_turned Along s.reaches.now) t.from t.instant c.args.cells.now c.args.last c.requires.searched.1 t.to c.requires.asked.0 row refl in
-    subst (Arrival s.reaches.now ex t.from t.to t.instant) (sym c.label_at.ensures) (arrival (g.B.Book.gates b) ex (g.B.Book.lawful b) s.reaches.now s.charted t.from t.to t.instant c.requires.asked.1 row best)
+    let best = row_best no_later (comes_out ex) (all_turned Along s.reaches.now) t.from t.instant c.args.cells.now c.args.last c.requires.searched.1 t.to c.requires.fits.to_place row refl in
+    subst (Arrival s.reaches.now ex t.from t.to t.instant) (sym c.label_at.ensures) (arrival (g.B.Book.gates b) ex (g.B.Book.lawful b) s.reaches.now s.charted t.from t.to t.instant c.requires.fits.in_time row best)

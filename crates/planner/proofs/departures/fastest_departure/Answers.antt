@@ -38,7 +38,7 @@ earliest_arrival-requires g c =
       | else-rounds-test w ↦ searched_at gates ex law rs from d c.rounds-test.cells c.rounds.cells c.rounds-test.last c.rounds.last w.cells-is w.last-is (rounds_end gates ex law rs from d c.rounds.k c.rounds.last c.rounds.cells (omega (arith, w.rounds-test.false)) c.rounds.invariant)
       | then-rounds-test+then-not-told w ↦ searched_at gates ex law rs from d c.rounds-test.cells w.next_row-told.new.cells c.rounds-test.last c.rounds.k w.cells-is w.last-is (rounds_left gates ex law rs from d c.rounds.k c.rounds.last c.rounds.cells w.next_row-told.new.cells w.next_row-told.result some w.rounds-test.true long c.rounds.invariant w.next_row-told.ensures w.if-not-told.true)
     ] in
-    record { asked = (c.requires.1.0, c.if-d-le-LAST_INSTANT.true); searched = after }
+    record { fits = record { from_place = c.requires.fits.from_place; to_place = c.requires.fits.to_place; in_time = c.if-d-le-LAST_INSTANT.true }; searched = after }
 
 pub overflow_sub-d : goal.overflow_sub-d
 overflow_sub-d g c = elim c.if-arrival-d.branch [ then-arrival-d w ↦ omega (arith, w.time-is) | else-arrival-d w ↦ omega (arith, w.time-is, w.if-arrival-d.false) ]
@@ -82,7 +82,7 @@ returns-else-d-le-LAST_INSTANT g c =
     let s = c.args.ahead.now in
     let b = s.by.now.book.now in
     let t = c.args.trip in
-    so_past (g.B.Book.gates b) (g.B.Book.exits b) (g.B.Book.lawful b) s.reaches.now s.charted t.from t.to t.instant c.departures.d c.departures.time c.departures.best c.requires.1.1.0 c.departures.invariant c.if-d-le-LAST_INSTANT.false
+    so_past (g.B.Book.gates b) (g.B.Book.exits b) (g.B.Book.lawful b) s.reaches.now s.charted t.from t.to t.instant c.departures.d c.departures.time c.departures.best c.requires.fits.in_time c.departures.invariant c.if-d-le-LAST_INSTANT.false
 
 pub returns-in_default : goal.returns-in_default
 returns-in_default g c =

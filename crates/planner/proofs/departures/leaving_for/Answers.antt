@@ -15,7 +15,7 @@ unwrap-requires g c =
     let b = s.by.now.book.now in
     let ex = g.B.Book.exits b in
     let t = c.args.trip in
-    let label = row_best no_sooner (goes_in ex) (all_turned Against s.reaches.now) t.to c.args.e c.fill-last.new.cells c.fill-last.result c.fill-last.ensures.unbeaten t.from c.requires.asked.0 (row_of c.fill-last.new.cells c.fill-last.result t.from) refl in
+    let label = row_best no_sooner (goes_in ex) (all_turned Against s.reaches.now) t.to c.args.e c.fill-last.new.cells c.fill-last.result c.fill-last.ensures.unbeaten t.from c.requires.fits.from_place (row_of c.fill-last.new.cells c.fill-last.result t.from) refl in
     ap is_some c.label_at.ensures ∙ departure_there (g.B.Book.gates b) ex (g.B.Book.lawful b) s.reaches.now s.charted t.from t.to c.args.e t.instant c.requires.there (row_of c.fill-last.new.cells c.fill-last.result t.from) label
 
 pub returns : goal.returns
@@ -26,7 +26,7 @@ returns g c =
     let ex = g.B.Book.exits b in
     let law = g.B.Book.lawful b in
     let t = c.args.trip in
-    let label = row_best no_sooner (goes_in ex) (all_turned Against s.reaches.now) t.to c.args.e c.fill-last.new.cells c.fill-last.result c.fill-last.ensures.unbeaten t.from c.requires.asked.0 (row_of c.fill-last.new.cells c.fill-last.result t.from) refl in
+    let label = row_best no_sooner (goes_in ex) (all_turned Against s.reaches.now) t.to c.args.e c.fill-last.new.cells c.fill-last.result c.fill-last.ensures.unbeaten t.from c.requires.fits.from_place (row_of c.fill-last.new.cells c.fill-last.result t.from) refl in
     let at = sym c.label_at.ensures ∙ c.unwrap.ensures in
     let last = departure gates ex law s.reaches.now s.charted t.from t.to c.args.e c.requires.there.within c.unwrap.result (subst (BestLabel no_sooner (goes_in ex) (all_turned Against s.reaches.now) t.to c.args.e t.from) at label) in
     let two = leaves_first gates ex law s.reaches.now s.charted t.from t.to t.instant c.args.e c.unwrap.result c.requires.there last in
