@@ -55,6 +55,7 @@ pub enum RecordList {
 }
 
 impl RecordList {
+    // It lends the word, and can't fail; `Display` prints it.
     pub fn word(self) -> &'static str
         ensures { result.now ≡ list_word self }
     {

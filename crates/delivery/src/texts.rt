@@ -1,4 +1,4 @@
-// What is printed of reaches laid, answers and legs.
+// What is printed of reaches laid, answers and legs. The planner's answers and legs print themselves in other words.
 ghost use Rattle.std.specs.Prelude.{Some};
 ghost use Rattle.delivery.specs.Texts.{laid_text, answer_text, leg_text};
 

@@ -68,7 +68,7 @@ pub(crate) struct Case<'a> {
     pub(crate) line: Result<Line, Unreadable>,
 }
 
-// A record after its sheet's first call can't be read.
+// A record after its sheet's first call can't be read. The list needs an allocator, which `FromStr` has no place for.
 pub(crate) fn read_cases<'a>(heap: Global, input: &'a str) -> Result<Vec<Case<'a>>, AllocError> {
     let mut cases = Vec::new(heap);
     let mut called = false;

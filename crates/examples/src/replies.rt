@@ -5,6 +5,7 @@ ghost use Rattle.examples.specs.Texts.{legs_text, done_text};
 use planner::legs::{Answer, Leg};
 use std::fmt;
 
+// A slice can't print itself.
 #[derive(Clone, Copy)]
 struct Legs<'a> {
     legs: &'a [Leg],

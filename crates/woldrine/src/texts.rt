@@ -1,4 +1,4 @@
-// What is printed of passages and labels.
+// What is printed of passages and labels, whose types are of other crates.
 ghost use Rattle.std.specs.Prelude.{Some};
 ghost use Rattle.woldrine.specs.Texts.{passage_text, cell_text};
 

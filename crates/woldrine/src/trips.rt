@@ -59,6 +59,7 @@ impl<N: Book, F: Book> Way<'_, N, F> {
     pub fn out(self, rt: &HostRuntime, ready: Instant) -> io::Result<Option<Instant>>
         ensures { IfOk result (λ a. a ≡ out_at (N.Book.exits self.entry.near.book.now self.entry.near.gate) (F.Book.exits self.entry.far.book.now self.entry.far.gate) ready) }
     {
+        // a `?` can't pass the `None` on, since the answer is a `Result`
         let Some((_, between)) = self.near.next(rt, ready)? else {
             return Ok(None);
         };
@@ -69,6 +70,7 @@ impl<N: Book, F: Book> Way<'_, N, F> {
     pub fn back(self, rt: &HostRuntime, due: Instant) -> io::Result<Option<Instant>>
         ensures { IfOk result (λ a. a ≡ in_by (N.Book.exits self.entry.near.book.now self.entry.near.gate) (F.Book.exits self.entry.far.book.now self.entry.far.gate) due) }
     {
+        // as in `out`
         let Some((between, _)) = self.far.last(rt, due)? else {
             return Ok(None);
         };

@@ -23,6 +23,7 @@ fn ask<B: Book>(
     ensures journey { QuestionOutcome planner.now.reaches.items (⟦<Noticed<B> as Book>⟧.exits planner.now.noticed) question cells.old cells.new legs.old legs.new result }
 {
     let Question { ask, trip } = question;
+    // which it is was read from the input
     match ask {
         Ask::Foremost => planner.foremost(trip, cells, legs),
         Ask::Fewest => planner.fewest(trip, cells, legs),

@@ -35,6 +35,7 @@ impl<B: Book> Noticed<B> {
         ensures { result ≡ answer_of toward (noticed_exits self.now.notices.items (B.Book.exits self.now.book) gate) t }
     {
         let mut at = t;
+        // it counts steps, and no place in a list
         for _step in 0..self.notices.len() + 1 {
             let passage = toward.ask(&self.book, gate, at)?;
             match self.hindrance(gate, passage) {
