@@ -16,7 +16,7 @@ use search::reaches::Reach;
 use std::io;
 
 // Planner, cells and legs are parameters of their own: as a struct's fields, each function would have to promise that it leaves
-// the others alone.
+// the others alone. `lay`, `post` and `lift` are three functions: one for all would take six parameters for its two lines.
 pub(crate) fn lay<B: Book>(
     rt: &HostRuntime,
     planner: &mut Planner<B>,
@@ -28,7 +28,6 @@ pub(crate) fn lay<B: Book>(
     println!(rt; "lay {reach}: {}", Reply { outcome })
 }
 
-// `post` and `lift` are two functions: one for both calls would take six parameters for its two lines.
 pub(crate) fn post<B: Book>(
     rt: &HostRuntime,
     planner: &mut Planner<B>,

@@ -5,7 +5,7 @@ ghost use Rattle.delivery.specs.Texts.{laid_text, answer_text, leg_text};
 use planner::legs::{Answer, Leg};
 use std::fmt;
 
-// The number of the reach that was laid.
+// The number of the reach that was laid, which alone would print as a plain number.
 #[derive(Clone, Copy)]
 pub struct Laid(pub u16);
 

@@ -32,10 +32,7 @@ fn numbers<const N: usize>(text: &str) -> Result<[u16; N], Unreadable> {
     for number in numbers.iter_mut() {
         *number = words.next().ok_or(Unreadable)?.parse()?;
     }
-    match words.next() {
-        None => Ok(numbers),
-        Some(_) => Err(Unreadable),
-    }
+    words.next().is_none().then_some(numbers).ok_or(Unreadable)
 }
 
 impl FromStr for Record {

@@ -43,6 +43,7 @@ impl<B: Book> Sheet<B> {
     pub(crate) fn call(&mut self, call: Call) -> Result<Done<'_>, Refusal>
         ensures { Replied (B.Book.gates self.old.planner.noticed.book) (B.Book.exits self.old.planner.noticed.book) self.old.planner (vec_len self.old.cells) (vec_len self.old.legs) call result }
     {
+        // which it is was read from the input
         match call {
             Call::Change(change) => self.change(change),
             Call::Repeat(repeat) => self.repeat(repeat),

@@ -16,6 +16,7 @@ impl<B: Book> Sheet<B> {
         ensures state { state self.new.planner (reply_text result) ≡ changed (B.Book.gates self.old.planner.noticed.book) change (unasked self.old.planner) }
         ensures book { self.new.planner.noticed.book ≡ self.old.planner.noticed.book }
     {
+        // which it is was read from the input
         match change {
             Change::Lay(reach) => Ok(Done::Laid(self.planner.lay(reach)?)),
             Change::Post(notice) => {
