@@ -96,49 +96,39 @@ pub(crate) struct Course<'a, H> {
 }
 
 impl<'a, H: Heading> Course<'a, H> {
+    // The search over the reaches, in the heading's direction.
+    pub(crate) fn search(&self) -> Search<'a, H>
+        ensures by { result.by.now ≡ self.now.by.now }
+        ensures direction { result.direction ≡ H.heads }
+        ensures reaches { result.reaches.now ≡ self.now.reaches.now }
+    {
+        Search {
+            by: self.by,
+            direction: self.by.direction(),
+            reaches: self.reaches,
+        }
+    }
+
     // Fills the cells from the place where the search of a trip starts, and says which row is the last.
     pub(crate) fn fill(&self, trip: Trip, cells: &mut [Option<Instant>]) -> usize
         requires { 4096 ≤ length cells.old }
         ensures { FilledBy H.heads self.now.reaches.now (H.exits self.now.by.now) trip.from trip.to trip.instant cells.new result }
     {
-        let direction = self.by.direction();
-        let reaches = self.reaches;
-        let Trip { from, instant, .. } = trip.turn(direction);
-        Search {
-            by: self.by,
-            direction,
-            reaches,
-        }
-        .run(from, instant, cells)
-        .unwrap()
+        let search = self.search();
+        let Trip { from, instant, .. } = trip.turn(search.direction);
+        search.run(from, instant, cells).unwrap()
     }
 
-    // The number of the reach by which the label of a place came into a row.
-    fn number(&self, cells: &[Option<Instant>], row: usize, place: Place) -> usize
-        requires inner { 0 < row }
-        requires reached { (at x z : ℕ) × ReachedBy H.heads self.now.reaches.now (H.exits self.now.by.now) cells.now at x row place z }
-        ensures { (at x z : ℕ) → ReachedBy H.heads self.now.reaches.now (H.exits self.now.by.now) cells.now at x row place z → Came H.heads self.now.reaches.now (H.exits self.now.by.now) cells.now at x row place z result }
-    {
-        let direction = self.by.direction();
-        let reaches = self.reaches;
-        Search {
-            by: self.by,
-            direction,
-            reaches,
-        }
-        .back_step(cells, row, place)
-        .unwrap()
-    }
-
-    // Its leg, and the place from which the search went over it.
+    // The leg by which the label of a place came into a row, and the place from which the search went over its reach.
     fn leg(&self, cells: &[Option<Instant>], row: usize, place: Place) -> (Leg, Place)
         requires inner { 0 < row }
         requires reached { (at x z : ℕ) × ReachedBy H.heads self.now.reaches.now (H.exits self.now.by.now) cells.now at x row place z }
         ensures { (at x z : ℕ) → ReachedBy H.heads self.now.reaches.now (H.exits self.now.by.now) cells.now at x row place z → LegRead H.heads self.now.reaches.now (H.exits self.now.by.now) cells.now at x row place z result.0 result.1 }
     {
-        let number = self.number(cells, row, place);
+        let search = self.search();
+        let number = search.back_step(cells, row, place).unwrap();
         let reach = self.reaches[number];
-        let start = self.by.direction().turn(reach).from;
+        let start = search.direction.turn(reach).from;
         let here = label_at(cells, row - 1, start).unwrap();
         let (entry, exit) = self.by.passage(reach.gate, here).unwrap();
         let leg = Leg {
