@@ -32,7 +32,7 @@ fn is_wanted(label: Option<Instant>, wanted: Option<Instant>) -> bool
     label.is_some_and(|x| wanted.is_none_or(|z| x == z))
 }
 
-// The label of a place in a row.
+// The label of a place in a row. The cells are lent as one slice, so a row is told by its number.
 pub(crate) fn label_at(cells: &[Option<Instant>], row: usize, place: Place) -> Option<Instant>
     requires { row < 64 }
     ensures { result ≡ row_of cells.now row place }
@@ -61,13 +61,15 @@ fn least_row(aim: Aim, cells: &[Option<Instant>], last: usize, place: Place) -> 
     (0..last + 1).find(|k| is_wanted(label_at(cells, *k, place), wanted))
 }
 
-// When some legs depart, and when they arrive; without a leg, at t.
+// When some legs depart, which is the entry of the first; without a leg, t.
 fn departing(legs: &[Leg], t: Instant) -> Instant
     ensures { result ≡ departs t legs.now }
 {
     legs.first().map_or(t, |leg| leg.entry)
 }
 
+// When some legs arrive, which is the exit of the last; without a leg, t. It takes the other end and the other field, so one
+// function for both would be no plainer.
 fn arriving(legs: &[Leg], t: Instant) -> Instant
     ensures { result ≡ arrives t legs.now }
 {
@@ -151,6 +153,7 @@ impl<'a, H: Heading> Course<'a, H> {
             *leg = read;
             end = start;
         }
+        // read back, the legs along the reaches stand last first
         if let Direction::Along = self.by.direction() {
             legs.reverse();
         }
