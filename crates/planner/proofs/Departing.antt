@@ -10,6 +10,7 @@ use Rattle.search.specs.Filled.{FirstRow, holds_row, RowFilled, NextRow}
 use Rattle.search.specs.Rows.{onward, lone, gathered, best, stirs, last_from}
 use Rattle.search.specs.Walks.{Leads, led, Unbeaten}
 use Rattle.search.specs.WayBack.{row_of}
+use Rattle.search.specs.declared.reaches.Direction.{Direction}
 use Rattle.search.specs.declared.reaches.Direction.TheVariants.{Along, Against}
 use Rattle.search.specs.declared.reaches.Reach.{Reach}
 use Rattle.search.proofs.Best.{rows_more, told_row, round_on, round_off}
@@ -37,6 +38,13 @@ row_best good goes es at x cells last un v inside None is = λ ws y leads gone. 
 row_best good goes es at x cells last un v inside (Some z) is =
     let w = un.gone last v (omega arith) inside z is in
     ((w.0, w.2, w.3), λ ws y leads gone. let g = un.all v inside ws y leads gone in subst (λ (u : ℕ). good u y ≡ true) (some_one (row_of cells last v) g.0 z g.1 is) g.2)
+
+-- a row of a search over the same exits and reaches
+pub next_of : (ex ex' : Exits) → ex ≡ ex' → (e : Direction) → e ≡ Along → (rs rs' : List Reach) → rs ≡ rs' → (k : ℕ) (cells new : List (Option ℕ)) (told : Bool) → NextRow no_later (comes_out ex) (all_turned e rs) k cells new told → NextRow no_later (comes_out ex') (all_turned Along rs') k cells new told
+next_of ex ex' p e q rs rs' r k cells new told next =
+    subst (λ (f : Exits). NextRow no_later (comes_out f) (all_turned Along rs') k cells new told) p
+    (subst (λ (f : Direction). NextRow no_later (comes_out ex) (all_turned f rs') k cells new told) q
+    (subst (λ (l : List Reach). NextRow no_later (comes_out ex) (all_turned e l) k cells new told) r next))
 
 -- ---- the rounds from one departure, after each of them and at their end
 module _ (gates : ℕ) (ex : Exits) (law : Lawful gates ex) (rs : List Reach) (a d : ℕ) where

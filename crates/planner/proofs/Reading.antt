@@ -1,5 +1,5 @@
 -- Lemmas: one step back through the rows of a search.
-use Rattle.std.proofs.Common.{◌≡◌, ℕ, zero, suc, ◌-◌, ◌<◌, List, [], ◌∷◌, get_or, Some, None, Option, sym, refl, ap, ◌∙◌, subst, arith}
+use Rattle.std.proofs.Common.{◌≡◌, ℕ, zero, suc, ◌-◌, ◌<◌, Bool, true, List, [], ◌∷◌, get_or, is_some, Some, None, Option, sym, refl, ap, ◌∙◌, subst, arith}
 use Rattle.std.proofs.lemmas.Option.{get_or_from_slice_get, slice_get_within, slice_get-map}
 use Rattle.std.specs.List.{slice_get}
 use Rattle.std.specs.Option.{option_map}
@@ -13,7 +13,7 @@ use Rattle.search.specs.declared.reaches.Reach.{Reach}
 use Rattle.search.proofs.Backwards.{step}
 use Rattle.planner.specs.Headings.{good_of, passage_of, label_of, goes_of}
 use Rattle.planner.specs.Ways.{ReachedBy, blank, Came, LegRead}
-use Rattle.planner.proofs.Heading.{laws_of, antisymmetric_of, label_some}
+use Rattle.planner.proofs.Heading.{laws_of, antisymmetric_of, label_some, step_of}
 
 -- a turned reach is one that was laid, turned
 pub turned_at : (d : Direction) (rs : List Reach) (n : ℕ) (e : Reach) → slice_get (all_turned d rs) n ≡ Some e → (r : Reach) × (slice_get rs n ≡ Some r) × (turned d r ≡ e)
@@ -71,6 +71,17 @@ module _ (gates : ℕ) (ex : Exits) (law : Lawful gates ex) (d : Direction) (rs 
   -- the same of the number that the code has
   pub came_by : (j u y : ℕ) → 0 < j → Before j u y → (n : ℕ) → step_back (good_of d) (goes_of d ex) es cells j u ≡ Some n → Came d rs ex cells at x j u y n
   came_by j u y some r n got = let k = came j u y some r in subst (Came d rs ex cells at x j u y) (some_one (step_back (good_of d) (goes_of d ex) es cells j u) k.0 n k.1 got) k.2
+
+-- the number by which a heading's search steps back
+module _ (gates : ℕ) (ex : Exits) (law : Lawful gates ex) (d : Direction) (rs : List Reach) (cells : List (Option ℕ)) (at x k v z : ℕ) (some : 0 < k) (r : ReachedBy d rs ex cells at x k v z) (good : ℕ → ℕ → Bool) (goes : ℕ → ℕ → Option ℕ) (p : good ≡ good_of d) (q : goes ≡ goes_of d ex) (e : Direction) (heads : e ≡ d) (laid : List Reach) (same : laid ≡ rs) (got : Option ℕ) (is : got ≡ step_back good goes (all_turned e laid) cells k v) where
+  step_is : got ≡ step_back (good_of d) (goes_of d ex) (all_turned d rs) cells k v
+  step_is = is ∙ step_of d ex good goes p q e heads laid cells k v ∙ ap (λ (l : List Reach). step_back (good_of d) (goes_of d ex) (all_turned d l) cells k v) same
+
+  pub steps_there : is_some got ≡ true
+  steps_there = ap is_some (step_is ∙ (came gates ex law d rs cells at x k v z some r).1)
+
+  pub came_there : (n : ℕ) → got ≡ Some n → Came d rs ex cells at x k v z n
+  came_there n found = came_by gates ex law d rs cells at x k v z some r n (sym step_is ∙ found)
 
 -- the leg over a reach that brought a label, where the code has its start, the label there and a passage
 module _ (d : Direction) (rs : List Reach) (ex : Exits) (cells : List (Option ℕ)) (at x k v z n : ℕ) (came : Came d rs ex cells at x k v z n) (e : Direction) (heads : e ≡ d) (turn : Reach) (is : turn ≡ turned e (get_or rs n blank)) where

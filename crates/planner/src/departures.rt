@@ -11,8 +11,7 @@ use crate::reckonings::{EarliestArrival, LatestDeparture};
 use crate::trips::Trip;
 use crate::ways::{Course, label_at};
 use books::book::{Book, Instant, LAST_INSTANT};
-use search::reaches::Direction;
-use search::rows::{Search, first_row};
+use search::rows::first_row;
 
 // The latest departure that still arrives at e, where a journey that is ready for the trip does.
 fn leaving_for<B: Book>(
@@ -46,8 +45,9 @@ fn earliest_arrival<B: Book>(
     label_at(cells, last, trip.to)
 }
 
-// The departure of the fastest journey that is ready for the trip; of equally fast ones, the earliest. The loops keep their labels:
-// a round that betters no place ends the one, a departure with no arrival the other.
+// The departure of the fastest journey that is ready for the trip; of equally fast ones, the earliest. The inner loop is that of
+// `Search::run`, held here so that one function has both loops. They keep their labels: a round that betters no place ends the
+// one, a departure with no arrival the other.
 pub(crate) fn fastest_departure<B: Book>(
     ahead: &Course<EarliestArrival<B>>,
     trip: Trip,
@@ -64,12 +64,9 @@ pub(crate) fn fastest_departure<B: Book>(
         by: &by,
         reaches: ahead.reaches,
     };
-    let search = Search {
-        by: ahead.by,
-        direction: Direction::Along,
-        reaches: ahead.reaches,
-    };
+    let search = ahead.search();
     let mut best = None;
+    // before a journey is found, more than any takes
     let mut time = LAST_INSTANT + 1;
     let mut d = trip.instant;
     'departures: while time > 0 && d <= LAST_INSTANT {

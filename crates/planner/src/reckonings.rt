@@ -10,6 +10,7 @@ pub struct EarliestArrival<'a, B> {
     pub book: &'a B,
 }
 
+// The trait's one instance here: the exit of the first passage.
 impl<'a, B: Book> Reckoning for EarliestArrival<'a, B> {
     type Label = Instant;
 
@@ -37,6 +38,7 @@ pub struct LatestDeparture<'a, B> {
     pub book: &'a B,
 }
 
+// Its other instance: the entry of the last passage, in the reverse order.
 impl<'a, B: Book> Reckoning for LatestDeparture<'a, B> {
     type Label = Instant;
 

@@ -47,10 +47,11 @@ impl Trip {
     {
         match direction {
             Direction::Along => self,
+            // against the reaches, a search starts where the trip ends
             Direction::Against => Trip {
                 from: self.to,
                 to: self.from,
-                instant: self.instant,
+                ..self
             },
         }
     }

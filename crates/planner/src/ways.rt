@@ -32,7 +32,7 @@ fn is_wanted(label: Option<Instant>, wanted: Option<Instant>) -> bool
     label.is_some_and(|x| wanted.is_none_or(|z| x == z))
 }
 
-// The label of a place in a row.
+// The label of a place in a row. The cells are lent as one slice, so a row is told by its number.
 pub(crate) fn label_at(cells: &[Option<Instant>], row: usize, place: Place) -> Option<Instant>
     requires { row < 64 }
     ensures { result ≡ row_of cells.now row place }
@@ -61,13 +61,15 @@ fn least_row(aim: Aim, cells: &[Option<Instant>], last: usize, place: Place) -> 
     (0..last + 1).find(|k| is_wanted(label_at(cells, *k, place), wanted))
 }
 
-// When some legs depart, and when they arrive; without a leg, at t.
+// When some legs depart, which is the entry of the first; without a leg, t.
 fn departing(legs: &[Leg], t: Instant) -> Instant
     ensures { result ≡ departs t legs.now }
 {
     legs.first().map_or(t, |leg| leg.entry)
 }
 
+// When some legs arrive, which is the exit of the last; without a leg, t. It takes the other end and the other field, so one
+// function for both would be no plainer.
 fn arriving(legs: &[Leg], t: Instant) -> Instant
     ensures { result ≡ arrives t legs.now }
 {
@@ -96,49 +98,39 @@ pub(crate) struct Course<'a, H> {
 }
 
 impl<'a, H: Heading> Course<'a, H> {
+    // The search over the reaches, in the heading's direction.
+    pub(crate) fn search(&self) -> Search<'a, H>
+        ensures by { result.by.now ≡ self.now.by.now }
+        ensures direction { result.direction ≡ H.heads }
+        ensures reaches { result.reaches.now ≡ self.now.reaches.now }
+    {
+        Search {
+            by: self.by,
+            direction: self.by.direction(),
+            reaches: self.reaches,
+        }
+    }
+
     // Fills the cells from the place where the search of a trip starts, and says which row is the last.
     pub(crate) fn fill(&self, trip: Trip, cells: &mut [Option<Instant>]) -> usize
         requires { 4096 ≤ length cells.old }
         ensures { FilledBy H.heads self.now.reaches.now (H.exits self.now.by.now) trip.from trip.to trip.instant cells.new result }
     {
-        let direction = self.by.direction();
-        let reaches = self.reaches;
-        let Trip { from, instant, .. } = trip.turn(direction);
-        Search {
-            by: self.by,
-            direction,
-            reaches,
-        }
-        .run(from, instant, cells)
-        .unwrap()
+        let search = self.search();
+        let Trip { from, instant, .. } = trip.turn(search.direction);
+        search.run(from, instant, cells).unwrap()
     }
 
-    // The number of the reach by which the label of a place came into a row.
-    fn number(&self, cells: &[Option<Instant>], row: usize, place: Place) -> usize
-        requires inner { 0 < row }
-        requires reached { (at x z : ℕ) × ReachedBy H.heads self.now.reaches.now (H.exits self.now.by.now) cells.now at x row place z }
-        ensures { (at x z : ℕ) → ReachedBy H.heads self.now.reaches.now (H.exits self.now.by.now) cells.now at x row place z → Came H.heads self.now.reaches.now (H.exits self.now.by.now) cells.now at x row place z result }
-    {
-        let direction = self.by.direction();
-        let reaches = self.reaches;
-        Search {
-            by: self.by,
-            direction,
-            reaches,
-        }
-        .back_step(cells, row, place)
-        .unwrap()
-    }
-
-    // Its leg, and the place from which the search went over it.
+    // The leg by which the label of a place came into a row, and the place from which the search went over its reach.
     fn leg(&self, cells: &[Option<Instant>], row: usize, place: Place) -> (Leg, Place)
         requires inner { 0 < row }
         requires reached { (at x z : ℕ) × ReachedBy H.heads self.now.reaches.now (H.exits self.now.by.now) cells.now at x row place z }
         ensures { (at x z : ℕ) → ReachedBy H.heads self.now.reaches.now (H.exits self.now.by.now) cells.now at x row place z → LegRead H.heads self.now.reaches.now (H.exits self.now.by.now) cells.now at x row place z result.0 result.1 }
     {
-        let number = self.number(cells, row, place);
+        let search = self.search();
+        let number = search.back_step(cells, row, place).unwrap();
         let reach = self.reaches[number];
-        let start = self.by.direction().turn(reach).from;
+        let start = search.direction.turn(reach).from;
         let here = label_at(cells, row - 1, start).unwrap();
         let (entry, exit) = self.by.passage(reach.gate, here).unwrap();
         let leg = Leg {
@@ -161,6 +153,7 @@ impl<'a, H: Heading> Course<'a, H> {
             *leg = read;
             end = start;
         }
+        // read back, the legs along the reaches stand last first
         if let Direction::Along = self.by.direction() {
             legs.reverse();
         }

@@ -36,6 +36,8 @@ impl<B: Book> Planner<B> {
         course.way(aim, trip, cells, legs).ok_or(Refusal::NoJourney)
     }
 
+    // Each of the three questions is a call of its own; the cells and the leg list are lent, each of any length.
+
     // The earliest arrival of the journeys that are ready at an instant, and then the fewest reaches.
     pub fn foremost(
         &self,

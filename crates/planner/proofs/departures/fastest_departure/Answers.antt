@@ -1,6 +1,6 @@
-use Rattle.std.proofs.Common.{◌≡◌, ℕ, ◌+◌, ◌-◌, ◌<◌, ◌≤◌, length, Some, Option, sym, subst, arith}
+use Rattle.std.proofs.Common.{◌≡◌, ℕ, ◌+◌, ◌-◌, ◌<◌, ◌≤◌, length, Some, Option, sym, ap, subst, arith}
 use Rattle.planner.specs.Departures.{HeldSoFar}
-use Rattle.planner.proofs.Departing.{SearchedFrom, searched_at, rounds_begin, rounds_end, rounds_more, rounds_left, so_faster, so_slower, so_past, so_none}
+use Rattle.planner.proofs.Departing.{SearchedFrom, next_of, searched_at, rounds_begin, rounds_end, rounds_more, rounds_left, so_faster, so_slower, so_past, so_none}
 use Rattle.planner.proofs.departures.fastest_departure.Goals as goal
 use Rattle.planner.proofs.departures.fastest_departure.Goals.{else-rounds-test, then-rounds-test+then-not-told, then-arrival-d, else-arrival-d}
 
@@ -20,7 +20,7 @@ rounds-preserved g c =
     let b = s.by.now.book.now in
     let some : 0 < c.rounds.k = omega arith in
     let long : 4096 ≤ length c.rounds.cells = omega arith in
-    rounds_more (g.B.Book.gates b) (g.B.Book.exits b) (g.B.Book.lawful b) s.reaches.now c.args.trip.from c.departures.d c.rounds.k c.rounds.last c.rounds.cells c.next_row-told.new.cells c.next_row-told.result some c.rounds-test.true long c.rounds.invariant c.next_row-told.ensures c.if-not-told.false
+    rounds_more (g.B.Book.gates b) (g.B.Book.exits b) (g.B.Book.lawful b) s.reaches.now c.args.trip.from c.departures.d c.rounds.k c.rounds.last c.rounds.cells c.next_row-told.new.cells c.next_row-told.result some c.rounds-test.true long c.rounds.invariant (next_of _ _ (ap (λ x. g.B.Book.exits x.book.now) c.search-search.ensures.by) _ c.search-search.ensures.direction _ s.reaches.now c.search-search.ensures.reaches c.rounds.k c.rounds.cells c.next_row-told.new.cells c.next_row-told.result c.next_row-told.ensures) c.if-not-told.false
 
 pub earliest_arrival-requires : goal.earliest_arrival-requires
 earliest_arrival-requires g c =
@@ -36,7 +36,7 @@ earliest_arrival-requires g c =
     let long : 4096 ≤ length c.rounds.cells = omega arith in
     let after : SearchedFrom gates ex law rs from d c.rounds-test.cells c.rounds-test.last = elim c.rounds-test.branch [
       | else-rounds-test w ↦ searched_at gates ex law rs from d c.rounds-test.cells c.rounds.cells c.rounds-test.last c.rounds.last w.cells-is w.last-is (rounds_end gates ex law rs from d c.rounds.k c.rounds.last c.rounds.cells (omega (arith, w.rounds-test.false)) c.rounds.invariant)
-      | then-rounds-test+then-not-told w ↦ searched_at gates ex law rs from d c.rounds-test.cells w.next_row-told.new.cells c.rounds-test.last c.rounds.k w.cells-is w.last-is (rounds_left gates ex law rs from d c.rounds.k c.rounds.last c.rounds.cells w.next_row-told.new.cells w.next_row-told.result some w.rounds-test.true long c.rounds.invariant w.next_row-told.ensures w.if-not-told.true)
+      | then-rounds-test+then-not-told w ↦ searched_at gates ex law rs from d c.rounds-test.cells w.next_row-told.new.cells c.rounds-test.last c.rounds.k w.cells-is w.last-is (rounds_left gates ex law rs from d c.rounds.k c.rounds.last c.rounds.cells w.next_row-told.new.cells w.next_row-told.result some w.rounds-test.true long c.rounds.invariant (next_of _ _ (ap (λ x. g.B.Book.exits x.book.now) c.search-search.ensures.by) _ c.search-search.ensures.direction _ rs c.search-search.ensures.reaches c.rounds.k c.rounds.cells w.next_row-told.new.cells w.next_row-told.result w.next_row-told.ensures) w.if-not-told.true)
     ] in
     record { fits = record { from_place = c.requires.fits.from_place; to_place = c.requires.fits.to_place; in_time = c.if-d-le-LAST_INSTANT.true }; searched = after }
 
