@@ -7,11 +7,12 @@ use Rattle.std.proofs.lemmas.Bool.Decides.{nat_tests}
 use Rattle.books.specs.Meaning.{Exits, Lawful, first_open, last_open, LeastOpen, GreatestOut}
 use Rattle.books.specs.Options.{option_cases, none_not_some}
 use Rattle.books.specs.Scans.{InTime, lawful_in_time, first_is, first_found, last_is, last_found}
-use Rattle.layers.specs.Notices.{clears, all_clear, let_by, hindering, noticed_exits, answer_of, past}
+use Rattle.layers.specs.Notices.{clears, all_clear, let_by, hindering, noticed_exits, past}
 use Rattle.layers.specs.NoticeLaws.{let_by_only, noticed_lawful}
+use Rattle.layers.specs.Toward.{answer_of}
 use Rattle.layers.specs.declared.notices.Notice.{Notice}
-use Rattle.layers.specs.declared.notices.toward.Toward.{Toward}
-use Rattle.layers.specs.declared.notices.toward.Toward.TheVariants.{Later, Earlier}
+use Rattle.layers.specs.declared.toward.Toward.{Toward}
+use Rattle.layers.specs.declared.toward.Toward.TheVariants.{Later, Earlier}
 
 -- ---- counting the notices that pass a test, where another test holds of more
 module _ (p q : Notice → Bool) (more : (n : Notice) → p n ≡ true → q n ≡ true) where

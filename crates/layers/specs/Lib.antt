@@ -1,3 +1,4 @@
+pub mod Toward
 pub mod TwoBooks
 pub mod Notices
 pub mod Texts

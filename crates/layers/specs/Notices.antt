@@ -1,12 +1,12 @@
 -- What notices over a book mean, and what posting and lifting one does. Assumes nothing.
 use Rattle.std.specs.Prelude.{◌≡◌, ℕ, ◌≤◌, Bool, cond, not, ◌&&◌, ◌||◌, ◌⊎◌, List, [], ◌∷◌, ◌++◌, length, Some, None, Ok, Err, Option, Result, ◌==◌, nat_le, nat_lt}
 use Rattle.std.specs.List.{slice_get, list_any, list_all, find}
-use Rattle.books.specs.Meaning.{Exits, first_open, last_open}
+use Rattle.books.specs.Meaning.{Exits}
 use Rattle.layers.specs.declared.notices.Notice.{Notice}
 use Rattle.layers.specs.declared.notices.refusals.Refusal.{Refusal}
 use Rattle.layers.specs.declared.notices.refusals.Refusal.TheVariants.{NoGate, BadNotice, SameNotice, NoticesFull, NoNotice}
-use Rattle.layers.specs.declared.notices.toward.Toward.{Toward}
-use Rattle.layers.specs.declared.notices.toward.Toward.TheVariants.{Later, Earlier}
+use Rattle.layers.specs.declared.toward.Toward.{Toward}
+use Rattle.layers.specs.declared.toward.Toward.TheVariants.{Later, Earlier}
 
 -- ---- what is open under notices
 -- a passage from s to e through gate g keeps clear of the notice
@@ -35,12 +35,7 @@ pub record NoticedPassage (ns : List Notice) (x : Exits) (g s e : ℕ) : Type 0 
 abbrev pub hindering : List Notice → ℕ → ℕ → ℕ → Option Notice
 hindering ns g s e = find (λ n. not (clears g s e n)) ns
 
--- ---- which way a gate is asked
-abbrev pub answer_of : Toward → (ℕ → Option ℕ) → ℕ → Option (ℕ × ℕ)
-answer_of Later exits t = first_open exits t
-answer_of Earlier exits t = last_open exits t
-
--- where a notice is past
+-- where a notice is past, each way that a gate is asked
 abbrev pub past : Toward → Notice → ℕ
 past Later n = n.end
 past Earlier n = n.begin

@@ -5,5 +5,6 @@ pub mod notices;
 pub mod replies;
 #[cfg(test)]
 mod tests;
+mod toward;
 pub mod two_books;
 pub mod worked;

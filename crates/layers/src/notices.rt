@@ -7,7 +7,6 @@ pub mod calls;
 pub mod open;
 pub mod refusals;
 mod texts;
-mod toward;
 
 // So many notices can be up at a time.
 pub const MOST_NOTICES: usize = 32;

@@ -1,9 +1,11 @@
 // The two-book layer: the gates of one book, and then those of another.
 ghost use Rattle.std.specs.Prelude.{◌≡◌, ◌+◌, min};
 ghost use Rattle.books.specs.Meaning.{Means};
+ghost use Rattle.layers.specs.Toward.{answer_of};
 ghost use Rattle.layers.specs.TwoBooks.{side_of, two_gates, two_exits, TwoPassage};
 ghost use Rattle.layers.specs.TwoLaws.{two_lawful};
 
+use crate::toward::Toward;
 use books::book::{Book, Gate, Instant};
 
 // No book has more gates.
@@ -42,6 +44,17 @@ impl<F: Book, S: Book> TwoBooks<F, S> {
             None
         }
     }
+
+    // The book that has the gate answers.
+    #[tactic(auto, using(crate::proofs::Sides::answer_shut))]
+    fn ask(&self, toward: Toward, gate: Gate, t: Instant) -> Option<(Instant, Instant)>
+        ensures { result ≡ answer_of toward (two_exits (F.Book.gates self.now.first) (F.Book.exits self.now.first) (S.Book.exits self.now.second) gate) t }
+    {
+        match self.side(gate)? {
+            Side::First(gate) => toward.ask(&self.first, gate, t),
+            Side::Second(gate) => toward.ask(&self.second, gate, t),
+        }
+    }
 }
 
 impl<F: Book, S: Book> Book for TwoBooks<F, S> {
@@ -57,19 +70,11 @@ impl<F: Book, S: Book> Book for TwoBooks<F, S> {
         (firsts + seconds).min(MOST_GATES)
     }
 
-    #[tactic(auto, using(crate::proofs::Sides::first_shut))]
     fn first(&self, gate: Gate, t: Instant) -> Option<(Instant, Instant)> {
-        match self.side(gate)? {
-            Side::First(gate) => self.first.first(gate, t),
-            Side::Second(gate) => self.second.first(gate, t),
-        }
+        self.ask(Toward::Later, gate, t)
     }
 
-    #[tactic(auto, using(crate::proofs::Sides::last_shut))]
     fn last(&self, gate: Gate, t: Instant) -> Option<(Instant, Instant)> {
-        match self.side(gate)? {
-            Side::First(gate) => self.first.last(gate, t),
-            Side::Second(gate) => self.second.last(gate, t),
-        }
+        self.ask(Toward::Earlier, gate, t)
     }
 }

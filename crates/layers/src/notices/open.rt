@@ -1,10 +1,11 @@
 // A book under notices is again a book.
 ghost use Rattle.std.specs.Prelude.{◌≡◌};
 ghost use Rattle.layers.specs.NoticeLaws.{noticed_lawful};
-ghost use Rattle.layers.specs.Notices.{answer_of, clears, hindering, noticed_exits};
+ghost use Rattle.layers.specs.Notices.{clears, hindering, noticed_exits, past};
+ghost use Rattle.layers.specs.Toward.{answer_of};
 
-use crate::notices::toward::Toward;
 use crate::notices::{Notice, Noticed};
+use crate::toward::Toward;
 use books::book::{Book, Gate, Instant};
 
 impl Notice {
@@ -14,6 +15,18 @@ impl Notice {
     {
         let (s, e) = passage;
         self.gate != gate || e <= self.begin || self.end <= s
+    }
+}
+
+impl Toward {
+    // The instant to ask again at, past a notice in the way.
+    fn past(self, notice: Notice) -> Instant
+        ensures { result ≡ past self notice }
+    {
+        match self {
+            Toward::Later => notice.end,
+            Toward::Earlier => notice.begin,
+        }
     }
 }
 

@@ -1,8 +1,7 @@
 // Which way a gate is asked: from an instant on for what comes later, or by an instant for what comes earlier.
 ghost use Rattle.std.specs.Prelude.{◌≡◌};
-ghost use Rattle.layers.specs.Notices.{answer_of, past};
+ghost use Rattle.layers.specs.Toward.{answer_of};
 
-use crate::notices::Notice;
 use books::book::{Book, Gate, Instant};
 
 #[derive(Clone, Copy)]
@@ -19,16 +18,6 @@ impl Toward {
         match self {
             Toward::Later => book.first(gate, t),
             Toward::Earlier => book.last(gate, t),
-        }
-    }
-
-    // The instant to ask again at, past a notice in the way.
-    pub(crate) fn past(self, notice: Notice) -> Instant
-        ensures { result ≡ past self notice }
-    {
-        match self {
-            Toward::Later => notice.end,
-            Toward::Earlier => notice.begin,
         }
     }
 }
