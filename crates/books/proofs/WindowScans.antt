@@ -1,12 +1,12 @@
 -- Lemmas: the least and the greatest of the entries in the windows are those of the gate.
 use Rattle.std.proofs.Common.{◌≡◌, ℕ, ◌+◌, ◌-◌, ◌<◌, ◌≤◌, min, max, Bool, ◌&&◌, List, [], ◌∷◌, Some, None, Option, sym, refl, ap, ◌∙◌, subst, inl, inr, ⊎_elim, arith}
-use Rattle.std.specs.Prelude.{◌==◌, nat_le}
+use Rattle.std.specs.Prelude.{nat_le}
 use Rattle.std.specs.List.{fold, reduce, filter_map, cons_option}
 use Rattle.std.proofs.lemmas.Bool.{cases_lt, cond_both}
 use Rattle.std.proofs.lemmas.Bool.Decides.{nat_tests}
 use Rattle.books.specs.Extremes.{Best, Least, Greatest}
 use Rattle.books.specs.Faults.{faultless}
-use Rattle.books.specs.Windows.{window_faults, holds, held, window_first, window_last}
+use Rattle.books.specs.Windows.{window_faults, holds, held, takes, window_first, window_last}
 use Rattle.books.specs.WindowLaws.{window_test}
 use Rattle.books.specs.declared.windows.Window.{Window}
 use Rattle.books.proofs.Extremes.{picked, Picks, best_either}
@@ -40,14 +40,14 @@ module _ (n g p : ℕ) where
     window_least : (w : Window) → Least (let_in w) t (window_first g p t w)
     window_least w =
         let fine = window_test n w in
-        cond_both (w.gate == g && (nat_le w.end 20160 && nat_le (max w.begin t + p) w.end)) (Some (max w.begin t)) None (Least (let_in w) t)
+        cond_both (takes g w && nat_le (max w.begin t + p) w.end) (Some (max w.begin t)) None (Least (let_in w) t)
         (λ y. (omega arith, grind (arith, nat_tests), λ k lo hi. grind (arith, nat_tests)))
         (λ no k lo. grind (arith, nat_tests))
 
     window_greatest : (w : Window) → Greatest (let_in w) p t (window_last g p t w)
     window_greatest w =
         let fine = window_test n w in
-        cond_both (w.gate == g && (nat_le w.end 20160 && nat_le (w.begin + p) (min w.end t))) (Some (min w.end t - p)) None (Greatest (let_in w) p t)
+        cond_both (takes g w && nat_le (w.begin + p) (min w.end t)) (Some (min w.end t - p)) None (Greatest (let_in w) p t)
         (λ y. (grind (arith, nat_tests), grind (arith, nat_tests), λ k lo hi. grind (arith, nat_tests)))
         (λ no k lo. grind (arith, nat_tests))
 

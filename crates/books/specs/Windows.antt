@@ -50,10 +50,14 @@ pub record TimedPassage (ps : List ℕ) (ws : List Window) (g s e : ℕ) : Type 
   pub closes : e ≤ window.end
 
 -- ---- as the code reckons
+-- the window is one of gate g's and ends in the fortnight
+abbrev pub takes : ℕ → Window → Bool
+takes g w = w.gate == g && nat_le w.end 20160
+
 -- the least instant from t on at which the window holds a passage of p minutes of gate g
 abbrev pub window_first : ℕ → ℕ → ℕ → Window → Option ℕ
-window_first g p t w = cond (w.gate == g && (nat_le w.end 20160 && nat_le (max w.begin t + p) w.end)) (Some (max w.begin t)) None
+window_first g p t w = cond (takes g w && nat_le (max w.begin t + p) w.end) (Some (max w.begin t)) None
 
 -- the greatest such instant from which the boat comes out by t
 abbrev pub window_last : ℕ → ℕ → ℕ → Window → Option ℕ
-window_last g p t w = cond (w.gate == g && (nat_le w.end 20160 && nat_le (w.begin + p) (min w.end t))) (Some (min w.end t - p)) None
+window_last g p t w = cond (takes g w && nat_le (w.begin + p) (min w.end t)) (Some (min w.end t - p)) None

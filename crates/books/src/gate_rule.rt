@@ -13,6 +13,7 @@ pub trait GateRule {
 
     ghost opens: { Self → ℕ → Bool };
 
+    // A tide is a public record of plain numbers, so its type can't promise this: the methods ask for it.
     ghost Sound: { Self → Type 0 };
 
     fn minutes(&self) -> u16
@@ -31,13 +32,20 @@ pub trait GateRule {
     // A passage ends in the fortnight.
     ghost ends: { (gate : Self) (s : ℕ) → opens gate s ≡ true → s + minutes gate ≤ 20160 };
 
+    // The passage of a boat that enters at s.
+    final fn passage(&self, s: Instant) -> (Instant, Instant)
+        requires { opens self.now s ≡ true }
+        ensures { result ≡ (s, s + minutes self.now) }
+    {
+        (s, s + self.minutes())
+    }
+
     // The first passage of a boat that is at the gate from t on.
     final fn first_passage(&self, t: Instant) -> Option<(Instant, Instant)>
         requires { Sound self.now }
         ensures { result ≡ first_open (exit_by minutes opens (Some self.now)) t }
     {
-        let s = self.first_entry(t)?;
-        Some((s, s + self.minutes()))
+        self.first_entry(t).map(|s| self.passage(s))
     }
 
     // The last of a boat that is out by t.
@@ -45,7 +53,6 @@ pub trait GateRule {
         requires { Sound self.now }
         ensures { result ≡ last_open (exit_by minutes opens (Some self.now)) t }
     {
-        let s = self.last_entry(t)?;
-        Some((s, s + self.minutes()))
+        self.last_entry(t).map(|s| self.passage(s))
     }
 }

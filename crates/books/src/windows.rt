@@ -6,7 +6,7 @@ ghost use Rattle.books.specs.Meaning.{Means};
 ghost use Rattle.books.specs.Records.{exit_by};
 ghost use Rattle.books.specs.Told.{told};
 ghost use Rattle.books.specs.WindowLaws.{timed_ends, timed_lawful};
-ghost use Rattle.books.specs.Windows.{window_faults, window_first, window_last, held, timed_exits, timed_faults, TimedPassage};
+ghost use Rattle.books.specs.Windows.{takes, window_faults, window_first, window_last, held, timed_exits, timed_faults, TimedPassage};
 
 use crate::book::{Book, Gate, Instant, LAST_INSTANT};
 use crate::faults::{Fault, Finding, RecordList};
@@ -107,14 +107,20 @@ struct TimedGate<'a> {
 }
 
 impl TimedGate<'_> {
+    // Whether the window is one of the gate's and ends in the fortnight.
+    fn takes(&self, window: &Window) -> bool
+        ensures { result ≡ takes self.now.number window.now }
+    {
+        window.gate == self.number && window.end <= LAST_INSTANT
+    }
+
     // The least entry from t on of a passage through the gate that lies in the window.
     fn first_in(&self, window: &Window, t: Instant) -> Option<Instant>
         ensures { result ≡ window_first self.now.number self.now.passage t window.now }
     {
         let entry = window.begin.max(t);
         let exit = entry.checked_add(self.passage)?;
-        let held = window.gate == self.number && exit <= window.end && window.end <= LAST_INSTANT;
-        held.then_some(entry)
+        (self.takes(window) && exit <= window.end).then_some(entry)
     }
 
     // The greatest such entry from which the boat comes out by t.
@@ -123,10 +129,7 @@ impl TimedGate<'_> {
     {
         let exit = window.end.min(t);
         let entry = exit.checked_sub(self.passage)?;
-        let held = window.gate == self.number
-            && window.begin <= entry
-            && window.end <= LAST_INSTANT;
-        held.then_some(entry)
+        (self.takes(window) && window.begin <= entry).then_some(entry)
     }
 }
 
