@@ -1,4 +1,5 @@
 // One round over the reaches, from one row of cells into the next.
+// The cells are lent as one slice, and a row is told by its number.
 ghost use Rattle.std.specs.Prelude.{◌≡◌, ℕ, ◌+◌, ◌-◌, ◌*◌, ◌<◌, true};
 ghost use Rattle.search.specs.Filled.{RowFilled};
 ghost use Rattle.search.specs.Reaches.{turned, all_turned};
@@ -8,59 +9,59 @@ use crate::reaches::{Gate, PLACES, Place, Reach};
 use crate::reckoning::Reckoning;
 use crate::rows::Search;
 
-// How a label, if there is one, goes on.
-pub(crate) fn go_on<R: Reckoning>(by: &R, gate: Gate, here: Option<R::Label>) -> Option<R::Label>
-    ensures { result ≡ onward (R.goes by.now) gate here }
-{
-    by.go(gate, here?)
-}
-
-// Whether the new label betters the old.
-pub(crate) fn betters<R: Reckoning>(by: &R, old: Option<R::Label>, new: Option<R::Label>) -> bool
-    ensures { result ≡ bettering (R.good by.now) old new }
-{
-    new.is_some_and(|y| old.is_none_or(|x| !by.at_least(x, y)))
-}
-
-// Takes one reach on, from row k - 1 into row k, and says whether it betters its end.
-fn relax<R: Reckoning>(by: &R, cells: &mut [Option<R::Label>], k: usize, e: Reach) -> bool
-    requires later { 0 < k }
-    requires held { RowIn cells.old k }
-    ensures cells { cells.new ≡ relaxed (R.good by.now) (R.goes by.now) (64 * (k - 1)) (64 * k) cells.old e }
-    ensures told { result ≡ tells (R.good by.now) (R.goes by.now) (64 * (k - 1)) (64 * k) cells.old e }
-{
-    if e.from >= PLACES || e.to >= PLACES {
-        return false;
-    }
-    let to = 64 * k + usize::from(e.to);
-    let old = cells[to];
-    let new = go_on(by, e.gate, cells[64 * (k - 1) + usize::from(e.from)]);
-    let told = betters(by, old, new);
-    if told {
-        cells[to] = new;
-    }
-    told
-}
-
-// Whether the label of a place was bettered in the round before round k; each label of row 0 counts as such.
-fn is_new<R: Reckoning>(by: &R, cells: &[Option<R::Label>], k: usize, place: Place) -> bool
-    requires later { 0 < k }
-    requires held { RowIn cells.now k }
-    ensures { result ≡ fresh (R.good by.now) cells.now k place }
-{
-    if place >= PLACES {
-        return false;
-    }
-    if k < 2 {
-        return true;
-    }
-    let at = usize::from(place);
-    let old = cells[64 * (k - 2) + at];
-    let new = cells[64 * (k - 1) + at];
-    betters(by, old, new)
-}
-
 impl<R: Reckoning> Search<'_, R> {
+    // How a label, if there is one, goes on.
+    pub(crate) fn go_on(self, gate: Gate, here: Option<R::Label>) -> Option<R::Label>
+        ensures { result ≡ onward (R.goes self.entry.by.now) gate here }
+    {
+        self.by.go(gate, here?)
+    }
+
+    // Whether the new label betters the old.
+    pub(crate) fn betters(self, old: Option<R::Label>, new: Option<R::Label>) -> bool
+        ensures { result ≡ bettering (R.good self.entry.by.now) old new }
+    {
+        new.is_some_and(|y| old.is_none_or(|x| !self.by.at_least(x, y)))
+    }
+
+    // Takes one reach on, from row k - 1 into row k, and says whether it betters its end.
+    fn relax(self, cells: &mut [Option<R::Label>], k: usize, e: Reach) -> bool
+        requires later { 0 < k }
+        requires held { RowIn cells.old k }
+        ensures cells { cells.new ≡ relaxed (R.good self.entry.by.now) (R.goes self.entry.by.now) (64 * (k - 1)) (64 * k) cells.old e }
+        ensures told { result ≡ tells (R.good self.entry.by.now) (R.goes self.entry.by.now) (64 * (k - 1)) (64 * k) cells.old e }
+    {
+        if e.from >= PLACES || e.to >= PLACES {
+            return false;
+        }
+        let to = 64 * k + usize::from(e.to);
+        let old = cells[to];
+        let new = self.go_on(e.gate, cells[64 * (k - 1) + usize::from(e.from)]);
+        let told = self.betters(old, new);
+        if told {
+            cells[to] = new;
+        }
+        told
+    }
+
+    // Whether the label of a place was bettered in the round before round k; each label of row 0 counts as such.
+    fn is_new(self, cells: &[Option<R::Label>], k: usize, place: Place) -> bool
+        requires later { 0 < k }
+        requires held { RowIn cells.now k }
+        ensures { result ≡ fresh (R.good self.entry.by.now) cells.now k place }
+    {
+        if place >= PLACES {
+            return false;
+        }
+        if k < 2 {
+            return true;
+        }
+        let at = usize::from(place);
+        let old = cells[64 * (k - 2) + at];
+        let new = cells[64 * (k - 1) + at];
+        self.betters(old, new)
+    }
+
     // Fills row k from the row before it, whatever that holds, and says whether a place is bettered. Only the reaches whose
     // start has a new label are taken on: the others were, with the same label, in the round before.
     pub(crate) fn round(self, cells: &mut [Option<R::Label>], k: usize) -> bool
@@ -68,13 +69,12 @@ impl<R: Reckoning> Search<'_, R> {
         requires held { RowIn cells.old k }
         ensures { RowFilled true (R.good self.entry.by.now) (R.goes self.entry.by.now) (all_turned self.entry.direction self.entry.reaches.now) k cells.old cells.new result }
     {
-        // offsets into one slice, since a round reads two rows before the one that it writes
         cells.copy_within(64 * (k - 1)..64 * k, 64 * k);
         let mut told = false;
         for reach in self.reaches {
             let e = self.direction.turn(*reach);
-            if is_new(self.by, cells, k, e.from) {
-                told |= relax(self.by, cells, k, e);
+            if self.is_new(cells, k, e.from) {
+                told |= self.relax(cells, k, e);
             }
         }
         told

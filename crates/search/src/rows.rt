@@ -55,7 +55,8 @@ impl<R: Reckoning> Search<'_, R> {
     }
 
     // Fills one row more, by a round over the reaches from the row before it, and says whether the round betters a place. Where
-    // the cells don't hold the row, it does nothing, and says no: either way a search ends there.
+    // the cells don't hold the row, it does nothing, and says no: either way there is nothing to go on with, so a truth value
+    // tells enough.
     pub fn next_row(self, cells: &mut [Option<R::Label>], row: usize) -> bool
         ensures { NextRow (R.good self.entry.by.now) (R.goes self.entry.by.now) (all_turned self.entry.direction self.entry.reaches.now) row cells.old cells.new result }
     {

@@ -1,4 +1,5 @@
 // Reading a way back through the rows of a search.
+// The cells are lent as one slice, and a row is told by its number.
 ghost use Rattle.std.specs.Prelude.{◌≡◌, position};
 ghost use Rattle.search.specs.Reaches.{all_turned};
 ghost use Rattle.search.specs.Rows.{RowIn};
@@ -6,29 +7,28 @@ ghost use Rattle.search.specs.WayBack.{brings, row_of, step_back, WaysBackAreWal
 
 use crate::reaches::{PLACES, Place, Reach};
 use crate::reckoning::Reckoning;
-use crate::rounds::{betters, go_on};
 use crate::rows::{CELLS, Search};
 
-// Whether a reach brings to a place, from row k, a label at least as good as z.
-fn brings_to<R: Reckoning>(
-    by: &R,
-    cells: &[Option<R::Label>],
-    k: usize,
-    place: Place,
-    z: R::Label,
-    e: Reach,
-) -> bool
-    requires { RowIn cells.now k }
-    ensures { result ≡ brings (R.good by.now) (R.goes by.now) (row_of cells.now k) place z e }
-{
-    if e.from >= PLACES || e.to >= PLACES || e.to != place {
-        return false;
-    }
-    let here = cells[64 * k + usize::from(e.from)];
-    !betters(by, go_on(by, e.gate, here), Some(z))
-}
-
 impl<R: Reckoning> Search<'_, R> {
+    // Whether a reach brings to a place, from row k, a label at least as good as z.
+    fn brings_to(
+        self,
+        cells: &[Option<R::Label>],
+        k: usize,
+        place: Place,
+        z: R::Label,
+        e: Reach,
+    ) -> bool
+        requires { RowIn cells.now k }
+        ensures { result ≡ brings (R.good self.entry.by.now) (R.goes self.entry.by.now) (row_of cells.now k) place z e }
+    {
+        if e.from >= PLACES || e.to >= PLACES || e.to != place {
+            return false;
+        }
+        let here = cells[64 * k + usize::from(e.from)];
+        !self.betters(self.go_on(e.gate, here), Some(z))
+    }
+
     // The number of the first reach that does.
     fn first_bringer(
         self,
@@ -43,7 +43,7 @@ impl<R: Reckoning> Search<'_, R> {
         self.reaches
             .iter()
             .map(|reach| self.direction.turn(*reach))
-            .position(|e| brings_to(self.by, cells, k, place, z, e))
+            .position(|e| self.brings_to(cells, k, place, z, e))
     }
 
     // The number of the reach by which the label at a place came into a row of cells that a search filled. From the least
