@@ -19,7 +19,7 @@ mod notes;
 mod texts;
 mod trips;
 
-// Out and back are two functions: one would take a closure and four texts.
+// Out and back are two functions: one would take a closure and three texts.
 fn go_out<N: Book, F: Book>(rt: &HostRuntime, way: Way<'_, N, F>) -> io::Result<()> {
     println!(rt; "out, ready at 0")?;
     match way.out(rt, 0)? {
