@@ -23,6 +23,7 @@ pub trait Book {
     fn count(&self) -> Gate
         ensures { result ≡ gates self.now };
 
+    // A gate and an instant are all that a book is asked, by two questions.
     // The least open instant at or after t, with its exit.
     fn first(&self, gate: Gate, t: Instant) -> Option<(Instant, Instant)>
         ensures { result ≡ first_open (exits self.now gate) t };

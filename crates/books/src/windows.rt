@@ -114,6 +114,7 @@ impl TimedGate<'_> {
         window.gate == self.number && window.end <= LAST_INSTANT
     }
 
+    // A book has two questions, so a window is looked at from each of its ends.
     // The least entry from t on of a passage through the gate that lies in the window.
     fn first_in(&self, window: &Window, t: Instant) -> Option<Instant>
         ensures { result ≡ window_first self.now.number self.now.passage t window.now }

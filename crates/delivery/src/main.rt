@@ -110,6 +110,7 @@ fn plan(rt: &HostRuntime) -> io::Result<()> {
     deliver(rt, &mut planner, &mut cells, &mut legs)
 }
 
+// Each program lists its own parts.
 fn main(rt: HostRuntime) -> io::Result<()> {
     plan(&rt)?;
     for sample in faulty_books() {

@@ -74,6 +74,7 @@ impl Series {
         ensures change { result ≡ change_at i self.old }
         ensures after { self.new ≡ series_after self.old }
     {
+        // which it is was read from the input
         match self {
             Series::Same(change) => *change,
             Series::Chain(gate) => Change::Lay(Reach {

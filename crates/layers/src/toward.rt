@@ -4,6 +4,7 @@ ghost use Rattle.layers.specs.Toward.{answer_of};
 
 use books::book::{Book, Gate, Instant};
 
+// A value says which of the two; a closure would carry the same choice.
 #[derive(Clone, Copy)]
 pub(crate) enum Toward {
     Later,

@@ -13,6 +13,8 @@ use crate::ways::{Course, label_at};
 use books::book::{Book, Instant, LAST_INSTANT};
 use search::rows::first_row;
 
+// These functions ask of a trip that it fits, each at another instant, so no type holds that.
+
 // The latest departure that still arrives at e, where a journey that is ready for the trip does.
 fn leaving_for<B: Book>(
     back: &Course<LatestDeparture<B>>,

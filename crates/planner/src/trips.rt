@@ -39,7 +39,7 @@ impl Trip {
         Ok(())
     }
 
-    // The trip as a search in a direction goes over it.
+    // The trip as a search in a direction goes over it, which is one of two cases, as in the definitions.
     pub(crate) fn turn(self, direction: Direction) -> Trip
         ensures from { result.from ≡ start_of direction self.from self.to }
         ensures to { result.to ≡ end_of direction self.from self.to }

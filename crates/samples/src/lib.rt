@@ -2,7 +2,7 @@
 #![tactic(auto)]
 
 ghost use Rattle.std.specs.Prelude.{◌≡◌, map, Some};
-ghost use Rattle.samples.specs.Faulty.{finding_of, faulty};
+ghost use Rattle.samples.specs.Faulty.{sample_told, faulty};
 ghost use Rattle.samples.specs.Texts.{sample_text};
 
 use books::faults::{Checked, Finding};
@@ -41,7 +41,7 @@ impl fmt::Display for Sample {
 
 // One book for each kind of fault.
 pub fn faulty_books() -> [Sample; 5]
-    ensures { map finding_of result ≡ faulty }
+    ensures { map sample_told result ≡ faulty }
 {
     [
         Sample {

@@ -43,7 +43,7 @@ impl<R: Reckoning> Search<'_, R> {
         if !first_row(cells, start, label) {
             return None;
         }
-        // a labelled `for` has no value, so the number of its round is kept beside it
+        // the rounds keep their label, and a labelled `for` has no value, so the number of its round is kept beside it
         let mut last = 0;
         'rounds: for k in 1..64 {
             last = k;

@@ -141,6 +141,7 @@ fn layered(rt: &HostRuntime) -> io::Result<()> {
     pair(rt, &mut book, notice(1, 130, 160), notice(1, 70, 120), 189)
 }
 
+// Each program lists its own parts.
 fn main(rt: HostRuntime) -> io::Result<()> {
     travel(&rt)?;
     layered(&rt)?;
