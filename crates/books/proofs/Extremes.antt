@@ -1,5 +1,5 @@
 -- Lemmas: the best instant of two tests, and the passages of a gate from its best entries.
-use Rattle.std.proofs.Common.{◌≡◌, ℕ, ◌+◌, ◌<◌, ◌≤◌, Bool, true, false, cond, ◌||◌, ◌⊎◌, Some, None, Option, refl, sym, subst, ⊎_elim, arith}
+use Rattle.std.proofs.Common.{◌≡◌, ℕ, ◌+◌, ◌<◌, ◌≤◌, Bool, true, false, cond, ◌||◌, ◌⊎◌, Some, None, Option, refl, sym, ◌∙◌, subst, ⊎_elim, arith}
 use Rattle.std.specs.Option.{option_map}
 use Rattle.std.proofs.lemmas.Option.{cond_some}
 use Rattle.std.proofs.lemmas.Bool.{cases_lt, cond-true, cond-false, or_from, or_left, or_right}
@@ -28,6 +28,15 @@ best_either pick Reach Beats picks o q (Some a) (Some b) h j =
     (λ p. subst P (sym p.0) (h.0, or_left (o a) (q a) h.1, λ k in_reach beats. or_from (o k) (q k) (h.2 k in_reach beats) (j.2 k in_reach (p.1 k beats))))
     (λ p. subst P (sym p.0) (j.0, or_right (o b) (q b) j.1, λ k in_reach beats. or_from (o k) (q k) (h.2 k in_reach (p.1 k beats)) (j.2 k in_reach beats)))
     (picks a b)
+
+-- ---- of a test that answers the same
+pub least_same : (o q : ℕ → Bool) (t : ℕ) (a : Option ℕ) → ((k : ℕ) → o k ≡ q k) → Least o t a → Least q t a
+least_same o q t None e h = λ k lo. sym (e k) ∙ h k lo
+least_same o q t (Some s) e h = (h.0, sym (e s) ∙ h.1, λ k lo hi. sym (e k) ∙ h.2 k lo hi)
+
+pub greatest_same : (o q : ℕ → Bool) (p t : ℕ) (a : Option ℕ) → ((k : ℕ) → o k ≡ q k) → Greatest o p t a → Greatest q p t a
+greatest_same o q p t None e h = λ k lo. sym (e k) ∙ h k lo
+greatest_same o q p t (Some s) e h = (h.0, sym (e s) ∙ h.1, λ k lo hi. sym (e k) ∙ h.2 k lo hi)
 
 -- ---- a gate where a passage takes so many minutes, and that opens where the test holds
 module _ (minutes : ℕ) (opens : ℕ → Bool) (ends : (s : ℕ) → opens s ≡ true → s + minutes ≤ 20160) (t : ℕ) where

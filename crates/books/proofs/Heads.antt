@@ -1,12 +1,21 @@
 -- Lemmas: the first fault of a record, and of a list of records.
-use Rattle.std.proofs.Common.{◌≡◌, ℕ, zero, suc, ◌+◌, ◌<◌, nat_lt, List, [], ◌∷◌, ◌++◌, map, length, slice_index_or, take, Some, None, Option, sym, refl, ap, ◌∙◌, ⊎_elim, arith, take_all}
+use Rattle.std.proofs.Common.{◌≡◌, ℕ, zero, suc, ◌+◌, ◌<◌, true, false, nat_lt, List, [], ◌∷◌, ◌++◌, map, length, slice_index_or, take, Some, None, Option, sym, refl, ap, ◌∙◌, ⊎_elim, arith, take_all}
 use Rattle.std.specs.Option.{MatchOption, option_map, option_or}
 use Rattle.std.proofs.lemmas.Bool.{cases_lt}
 use Rattle.std.proofs.lemmas.List.{map-append}
 use Rattle.books.specs.Told.{fault_number, list_word, finding_told, told}
-use Rattle.books.specs.Faults.{listed, when, head, faults_from, in_list, gate_list_faults}
+use Rattle.books.specs.Options.{none_not_some}
+use Rattle.books.specs.Faults.{listed, when, head, faultless, faults_from, in_list, gate_list_faults}
 use Rattle.books.specs.declared.faults.Finding.{Finding}
 use Rattle.books.specs.declared.faults.RecordList.{RecordList}
+
+pub none_faultless : (ns : List ℕ) → None ≡ head ns → faultless ns ≡ true
+none_faultless [] h = refl
+none_faultless (n ∷ ns) h = none_not_some (head (n ∷ ns)) n (sym h) refl
+
+pub some_faulty : (ns : List ℕ) (n : ℕ) → Some n ≡ head ns → faultless ns ≡ false
+some_faulty [] n h = none_not_some (head []) n refl (sym h)
+some_faulty (m ∷ ns) n h = refl
 
 take_listed : {R : Type 0} (rs : List R) → take (listed rs) rs ≡ take 256 rs
 take_listed rs =

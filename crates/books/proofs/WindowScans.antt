@@ -1,5 +1,5 @@
 -- Lemmas: the least and the greatest of the entries in the windows are those of the gate.
-use Rattle.std.proofs.Common.{◌≡◌, ℕ, ◌+◌, ◌-◌, ◌<◌, ◌≤◌, min, max, Bool, ◌&&◌, List, [], ◌∷◌, Some, None, Option, sym, refl, ap, ◌∙◌, subst, inl, inr, ⊎_elim, arith}
+use Rattle.std.proofs.Common.{◌≡◌, ℕ, ◌+◌, ◌-◌, ◌<◌, ◌≤◌, min, max, Bool, true, false, ◌&&◌, ◌||◌, List, [], ◌∷◌, ◌++◌, Some, None, Option, sym, refl, ap, ◌∙◌, subst, inl, inr, ⊎_elim, arith}
 use Rattle.std.specs.Prelude.{nat_le}
 use Rattle.std.specs.List.{fold, reduce, filter_map, cons_option}
 use Rattle.std.proofs.lemmas.Bool.{cases_lt, cond_both}
@@ -27,6 +27,19 @@ reduce_more pick joins (Some a) (b ∷ xs) = ap Some (fold_picked pick joins a b
 module _ (n g p : ℕ) where
   abbrev let_in : Window → ℕ → Bool
   let_in w k = faultless (window_faults n w) && holds g p k w
+
+  -- one window more at the end
+  held_push : (ws : List Window) (w : Window) (s : ℕ) → held n (ws ++ (w ∷ [])) g p s ≡ (held n ws g p s || let_in w s)
+  held_push [] w s = or_false (let_in w s)
+    where
+      or_false : (a : Bool) → (a || false) ≡ a
+      or_false true = refl
+      or_false false = refl
+  held_push (v ∷ ws) w s = ap (λ b. let_in v s || b) (held_push ws w s) ∙ sym (or_assoc (let_in v s) (held n ws g p s) (let_in w s))
+    where
+      or_assoc : (a b c : Bool) → ((a || b) || c) ≡ (a || (b || c))
+      or_assoc true b c = refl
+      or_assoc false b c = refl
 
   -- the best entry in each window gives that of the gate
   module _ (pick : ℕ → ℕ → ℕ) (Reach : ℕ → Type 0) (Beats : ℕ → ℕ → Type 0) (picks : Picks pick Beats) (joins : Joins pick) (entry : Window → Option ℕ) (one : (w : Window) → Best (let_in w) Reach Beats (entry w)) where

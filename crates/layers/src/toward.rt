@@ -12,7 +12,8 @@ pub(crate) enum Toward {
 }
 
 impl Toward {
-    // What the book answers.
+    // What the book answers. Inlined, so that a caller that knows the way pays for no choice.
+    #[inline(always)]
     pub(crate) fn ask<B: Book>(self, book: &B, gate: Gate, t: Instant) -> Option<(Instant, Instant)>
         ensures { result ≡ answer_of self (B.Book.exits book.now gate) t }
     {

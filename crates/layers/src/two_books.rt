@@ -32,6 +32,7 @@ impl<F: Book, S: Book> TwoBooks<F, S> {
         TwoBooks { first, second }
     }
 
+    #[inline(always)]
     fn side(&self, gate: Gate) -> Option<Side>
         ensures { result ≡ side_of (F.Book.gates self.now.first) gate }
     {
@@ -45,7 +46,8 @@ impl<F: Book, S: Book> TwoBooks<F, S> {
         }
     }
 
-    // The book that has the gate answers.
+    // The book that has the gate answers. Inlined, so that each level of layers costs no call.
+    #[inline(always)]
     #[tactic(auto, using(crate::proofs::Sides::answer_shut))]
     fn ask(&self, toward: Toward, gate: Gate, t: Instant) -> Option<(Instant, Instant)>
         ensures { result ≡ answer_of toward (two_exits (F.Book.gates self.now.first) (F.Book.exits self.now.first) (S.Book.exits self.now.second) gate) t }

@@ -7,6 +7,18 @@ use Rattle.search.specs.declared.reaches.Reach.{Reach}
 use Rattle.search.proofs.CellSteps.{gathered_same, stirs_same, still}
 
 module _ {L : Type 0} (good : L → L → Bool) (goes : ℕ → L → Option L) (es : List Reach) where
+  pub best_same : (f g : ℕ → Option L) → ((u : ℕ) → u < 64 → f u ≡ g u) → (k v : ℕ) → v < 64 → best good goes es f k v ≡ best good goes es g k v
+  best_same f g same zero v h = same v h
+  best_same f g same (suc k) v h =
+      gathered_same good goes es (best good goes es f k) (best good goes es g k) (best_same f g same k) v (best good goes es f k v)
+      ∙ ap (gathered good goes es (best good goes es g k) v) (best_same f g same k v h)
+
+  pub last_same : (f g : ℕ → Option L) → ((u : ℕ) → u < 64 → f u ≡ g u) → (n k : ℕ) → last_from good goes es f n k ≡ last_from good goes es g n k
+  last_same f g same zero k = refl
+  last_same f g same (suc n) k =
+      ap (λ b. cond b (last_from good goes es f n (suc k)) (suc k)) (stirs_same good goes es (best good goes es f k) (best good goes es g k) (best_same f g same k))
+      ∙ ap (λ m. cond (stirs good goes es (best good goes es g k)) m (suc k)) (last_same f g same n (suc k))
+
   module _ (f : ℕ → Option L) where
     -- a row more
     module _ (cells new : List (Option L)) (k : ℕ) (some : 0 < k) (rows : (j v : ℕ) → j < k → v < 64 → get_or cells (64 * j + v) None ≡ best good goes es f j v) where

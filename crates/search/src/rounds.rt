@@ -1,6 +1,6 @@
 // One round over the reaches, from one row of cells into the next.
 // The cells are lent as one slice, and a row is told by its number.
-ghost use Rattle.std.specs.Prelude.{◌≡◌, ℕ, ◌+◌, ◌-◌, ◌*◌, ◌<◌, true};
+ghost use Rattle.std.specs.Prelude.{◌≡◌, ℕ, ◌+◌, ◌-◌, ◌*◌, ◌<◌, ◌≤◌, true, length, slice_index_or, None};
 ghost use Rattle.search.specs.Filled.{RowFilled};
 ghost use Rattle.search.specs.Reaches.{turned, all_turned};
 ghost use Rattle.search.specs.Rows.{onward, bettering, tells, relaxed, fresh, RowIn};
@@ -8,6 +8,21 @@ ghost use Rattle.search.specs.Rows.{onward, bettering, tells, relaxed, fresh, Ro
 use crate::reaches::{Gate, PLACES, Place, Reach};
 use crate::reckoning::Reckoning;
 use crate::rows::Search;
+
+// Gives row k what the row before it has: the row is copied whole, where `copy_within` would go cell by cell.
+fn carry<L: Copy>(cells: &mut [Option<L>], k: usize)
+    requires later { 0 < k }
+    requires held { RowIn cells.old k }
+    ensures row { (v : ℕ) → v < 64 → slice_index_or cells.new (64 * k + v) None ≡ slice_index_or cells.old (64 * (k - 1) + v) None }
+    ensures below { (j : ℕ) → j < 64 * k → slice_index_or cells.new j None ≡ slice_index_or cells.old j None }
+    ensures above { (j : ℕ) → 64 * k + 64 ≤ j → slice_index_or cells.new j None ≡ slice_index_or cells.old j None }
+    ensures len { length cells.new ≡ length cells.old }
+{
+    let (before, rest) = cells.split_at_mut(64 * k);
+    let (_, row) = before.split_at(64 * (k - 1));
+    let (next, _) = rest.split_at_mut(64);
+    next.copy_from_slice(row);
+}
 
 impl<R: Reckoning> Search<'_, R> {
     // How a label, if there is one, goes on.
@@ -69,7 +84,7 @@ impl<R: Reckoning> Search<'_, R> {
         requires held { RowIn cells.old k }
         ensures { RowFilled true (R.good self.entry.by.now) (R.goes self.entry.by.now) (all_turned self.entry.direction self.entry.reaches.now) k cells.old cells.new result }
     {
-        cells.copy_within(64 * (k - 1)..64 * k, 64 * k);
+        carry(cells, k);
         let mut told = false;
         for reach in self.reaches {
             let e = self.direction.turn(*reach);

@@ -34,7 +34,8 @@ impl<B: Book> Sheet<B> {
     // The series is told each change's number: one that counted by itself would owe that its places fit 16 bits.
     #[tactic(auto, using(crate::proofs::Repeats::repeated_more))]
     pub(crate) fn repeat(&mut self, repeat: Repeat) -> Result<Done<'static>, Refusal>
-        ensures { state self.new.planner (reply_text result) ≡ repeated (B.Book.gates self.old.planner.noticed.book) (non_zero_u16_get repeat.count) 0 repeat.series (unasked self.old.planner) }
+        ensures state { state self.new.planner (reply_text result) ≡ repeated (B.Book.gates self.old.planner.noticed.book) (non_zero_u16_get repeat.count) 0 repeat.series (unasked self.old.planner) }
+        ensures book { self.new.planner.noticed.book ≡ self.old.planner.noticed.book }
     {
         let Repeat { count, mut series } = repeat;
         let mut reply = self.change(series.change(0));

@@ -1,4 +1,4 @@
-use Rattle.std.proofs.Common.{◌≡◌, ℕ, ◌+◌, ◌-◌, ◌*◌, ◌<◌, ◌≤◌, Bool, List, false, length, get_or, drop, None, Option, sym, refl, ap, ◌∙◌, subst, inl, inr, arith}
+use Rattle.std.proofs.Common.{◌≡◌, ◌+◌, ◌-◌, ◌*◌, ◌<◌, ◌≤◌, Bool, List, false, length, get_or, drop, None, Option, sym, refl, ap, ◌∙◌, subst, inl, inr, arith}
 use Rattle.std.proofs.lemmas.List.{at_drop_all}
 use Rattle.std.specs.List.{ContainsAt as Has}
 use Rattle.search.specs.Reaches.{all_turned}
@@ -26,7 +26,7 @@ loop-reach-preserved g c =
     let es = c.args.self.reaches.now in
     let i = c.loop-reach.reach-index in
     let t = c.turn-e.result in
-    let old = c.copy_within.new.self in
+    let old = c.carry.new.cells in
     let cells = c.loop-reach.cells in
     let under = c.loop-reach.invariant.2 in
     let some : 0 < c.args.k = omega arith in
@@ -65,16 +65,14 @@ returns g c =
     let q = 64 * c.args.k in
     let es = all_turned c.args.self.direction c.args.self.reaches.now in
     let old = c.args.cells.now in
-    let mid = c.copy_within.new.self in
+    let mid = c.carry.new.cells in
     let new = c.loop-reach.cells in
     let inv = c.loop-reach.invariant in
-    let copied = c.copy_within.ensures.by_index in
     let apart : 64 * (c.args.k - 1) + 64 ≤ 64 * c.args.k = omega arith in
-    let long : 64 * c.args.k + 64 ≤ length c.copy_within.new.self = omega (arith, c.requires.held) in
-    let row : (v : ℕ) → v < 64 → get_or c.copy_within.new.self (64 * c.args.k + v) None ≡ get_or c.args.cells.now (64 * (c.args.k - 1) + v) None =
-    λ v h. let e : 64 * (c.args.k - 1) + (64 * c.args.k + v - 64 * c.args.k) ≡ 64 * (c.args.k - 1) + v = omega arith in copied.0 (q + v) None (omega arith) (omega arith) ∙ ap (λ (n : ℕ). get_or old n None) e in
-    let below : (j : ℕ) → j < 64 * c.args.k → get_or c.copy_within.new.self j None ≡ get_or c.args.cells.now j None = λ j h. copied.1 j None h in
-    let above : (j : ℕ) → 64 * c.args.k + 64 ≤ j → get_or c.copy_within.new.self j None ≡ get_or c.args.cells.now j None = λ j h. copied.2 j None (omega arith) in
+    let long : 64 * c.args.k + 64 ≤ length c.carry.new.cells = omega (arith, c.requires.held) in
+    let row = c.carry.ensures.row in
+    let below = c.carry.ensures.below in
+    let above = c.carry.ensures.above in
     let carried : RoundBefore a b es old k → Carried a b es mid k = λ h. ((λ v l. row v l ∙ sym (below (p + v) (omega arith))), before_kept a b es k old mid below h) in
     let cells : RoundBefore a b es old k → new ≡ rounded a b p q mid es = λ h. sym (at_drop_all (λ l. rounded a b p q new (all_turned c.args.self.direction l)) c.args.self.reaches.now c.loop-reach.reach-index c.loop-reach-test.false) ∙ (inv.0 (carried h)).0 in
     let told : RoundBefore a b es old k → c.loop-reach.told ≡ stirred a b p q mid false es = λ h. sym (at_drop_all (λ l. stirred a b p q new c.loop-reach.told (all_turned c.args.self.direction l)) c.args.self.reaches.now c.loop-reach.reach-index c.loop-reach-test.false) ∙ (inv.0 (carried h)).1 in (

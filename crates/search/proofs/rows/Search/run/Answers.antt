@@ -19,7 +19,7 @@ rounds-preserved g c =
     let r = c.args.self.by.now in
     let some : 0 < c.rounds.k = omega arith in
     let long : 4096 ≤ length c.rounds.cells = omega (arith, c.rounds.invariant.0) in
-    rounds_more (g.R.Reckoning.good r) (g.R.Reckoning.goes r) (all_turned c.args.self.direction c.args.self.reaches.now) c.args.start c.args.label c.args.cells.now (g.R.Reckoning.laws r) c.rounds.k c.rounds.last c.rounds.cells c.next_row.new.cells c.next_row.result some c.rounds-test.true long c.rounds.invariant c.next_row.ensures c.if-not-next_row.false
+    rounds_more (g.R.Reckoning.good r) (g.R.Reckoning.goes r) (all_turned c.args.self.direction c.args.self.reaches.now) c.args.start c.args.label c.args.cells.now (g.R.Reckoning.laws r) c.rounds.k c.rounds.last c.rounds.cells c.next_row.new.cells c.next_row.result some (omega (arith, c.rounds-test.true)) long c.rounds.invariant c.next_row.ensures c.if-not-next_row.false
 
 pub returns-after-rounds : goal.returns-after-rounds
 returns-after-rounds g c =
@@ -32,5 +32,5 @@ returns-then-not-next_row g c =
     let r = c.args.self.by.now in
     let some : 0 < c.rounds.k = omega arith in
     let long : 4096 ≤ length c.rounds.cells = omega (arith, c.rounds.invariant.0) in
-    let end = rounds_left (g.R.Reckoning.good r) (g.R.Reckoning.goes r) (all_turned c.args.self.direction c.args.self.reaches.now) c.args.start c.args.label c.args.cells.now (g.R.Reckoning.laws r) c.rounds.k c.rounds.last c.rounds.cells c.next_row.new.cells c.next_row.result some c.rounds-test.true long c.rounds.invariant c.next_row.ensures c.if-not-next_row.true in
+    let end = rounds_left (g.R.Reckoning.good r) (g.R.Reckoning.goes r) (all_turned c.args.self.direction c.args.self.reaches.now) c.args.start c.args.label c.args.cells.now (g.R.Reckoning.laws r) c.rounds.k c.rounds.last c.rounds.cells c.next_row.new.cells c.next_row.result some (omega (arith, c.rounds-test.true)) long c.rounds.invariant c.next_row.ensures c.if-not-next_row.true in
     record { last = end.0; filled = end.1; walks = end.2 }
